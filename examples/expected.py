@@ -513,12 +513,16 @@ class Selection:
         one_of = all(self.value(key, line) in values for key, values in self.where.items())
         return one_of and not any(self.value(key, line) in values for key, values in self.where_not.items())
 
+    def group(self, line):
+        """The group of a line: the values of all keys."""
+        return tuple(self.value(key, line) for key in self.keys)
+
     def sums(self, lines):
-        """BilledCost and EffectiveCost of each group of the lines that it takes. A group has the values of all keys."""
+        """BilledCost and EffectiveCost of each group of the lines that it takes."""
         sums = defaultdict(lambda: (0, 0))
         for line in lines:
             if self.takes(line):
-                group = tuple(self.value(key, line) for key in self.keys)
+                group = self.group(line)
                 billed, effective = sums[group]
                 sums[group] = billed + line.billed, effective + line.effective
         return sums
@@ -766,6 +770,22 @@ class Warehouse:
             return dict(sums)
         charges = self.charges(selection.keys[0].name, {group: effective for (group,), (_, effective) in sums.items()})
         return {(group,): (*sums.get((group,), (0, 0)), cost) for group, cost in charges.items()}
+
+    def amounts(self, selection, tag, low, high):
+        """What the texts of a tag read as on the rows of a range of hours that a selection takes, summed by group, and how many of these rows
+        have no amount there. Each row counts once, as it was given."""
+        sums, missing = defaultdict(int), 0
+        for hour in range(self.times.hour(low), self.times.hour(high)):
+            for row in self.rows.get(hour, []):
+                owner = (row.id, row.kind, row.status)
+                line = Line(hour, row.category, owner, row.billed, row.effective, row.quantity, row.sku, row.account, row.tags, row=row)
+                if selection.takes(line):
+                    try:
+                        amount = nanos(row.tags.get(tag, ""))
+                    except Unknown:
+                        amount, missing = 0, missing + 1
+                    sums[selection.group(line)] += amount
+        return dict(sums), missing
 
     def exported(self, line):
         """The row that a line is exported as, by column: amounts in nanos, times in seconds since 1970, tags as a dict; None where

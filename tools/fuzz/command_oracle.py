@@ -59,7 +59,7 @@ COMMANDS = {
     ),
     "report": (
         {"dir": DIR, "tag": Option(repeats=True), "column": Option(rule=one_of(*COLUMNS), repeats=True), "where": Option(repeats=True),
-         "where-not": Option(repeats=True), "map": Option(), "total-only": FLAG, **HOURS, "by": Option(rule=one_of("hour", "day", "month")),
+         "where-not": Option(repeats=True), "map": Option(), "sum": Option(), "total-only": FLAG, **HOURS, "by": Option(rule=one_of("hour", "day", "month")),
          "top": Option(), "only": Option(), "as-of": Option(), "policy": Option(), "format": Option(rule=one_of("table", "csv", "json", "html")),
          "direct": FLAG}, 0, 0,
     ),
@@ -211,12 +211,14 @@ def keeps_hold(keeps):
 def keys_hold(given):
     """Whether the options of a report name its groups, and filters by a key and a value."""
     tags, columns = given.get("tag", []), given.get("column", [])
-    if "policy" in given and (len(tags) != 1 or {"direct", "column", "where", "where-not", "map", "total-only"} & set(given)):
+    if "policy" in given and (len(tags) != 1 or {"direct", "column", "where", "where-not", "map", "sum", "total-only"} & set(given)):
         return False
-    if "only" in given and (len(tags) != 1 or {"top", "direct", "column", "where", "where-not", "map", "total-only"} & set(given)):
+    if "only" in given and (len(tags) != 1 or {"top", "direct", "column", "where", "where-not", "map", "sum", "total-only"} & set(given)):
+        return False
+    if "sum" in given and given.get("format") == "html":
         return False
     if "direct" in given:
-        return len(tags) == 1 and not {"top", "format", "column", "where", "where-not", "map", "total-only"} & set(given)
+        return len(tags) == 1 and not {"top", "format", "column", "where", "where-not", "map", "sum", "total-only"} & set(given)
     if "total-only" in given:
         named = not tags and not columns and "top" not in given
     else:

@@ -55,7 +55,7 @@ WORDS = {
     "scripts": encoded(hostile.ODD_LINES + hostile.COUNTS + hostile.TARGETS + hostile.KEYS + hostile.HOSTILE + NUMBERS)
     + encoded("post commit add policy withdraw report lines state checkpoint a b team 1 2".split() + ["2024-01-01T00:00Z", "2024-01-02T00:00Z", " ", "\n", "\r\n"]),
     "command-lines": encoded(
-        "run import load add replace withdraw check report compare lines coverage commitments status verify checkpoint compact dump explain policy list export help --as-of --before --before-to --digest --expect --column --where --where-not --map --total-only --only --policy --summary --summary=json --keep ServiceName=service --dialect gcp SkuId team=web team= jsonl --seq --all --into --yes --dry-run --dir --create --currency --workers --origin --quiet --tag --from --to".split()
+        "run import load add replace withdraw check report compare lines coverage commitments status verify checkpoint compact dump explain policy list export help --as-of --before --before-to --digest --expect --column --where --where-not --map --sum --total-only --only --policy --summary --summary=json --keep ServiceName=service --dialect gcp SkuId team=web team= jsonl --seq --all --into --yes --dry-run --dir --create --currency --workers --origin --quiet --tag --from --to".split()
         + "--by --top --format --analysts --dry-run --yes --help -h --version -V -- - -d --di --dir=house house none rows.csv odd.csv usage.toml USD EUR usd day hour month".split()
         + "week csv json html table text 2024-01 2024-02 2024-01-01 2024-01-01T00:00Z 2024-13 1 0 -1 16 17 64 65 256 1000 1001 V5 S2 J9 v5 Z1 team".split()
         + ["", " ", "=", "\n", "\u00e9", b"\xff", "--=", "--dir=", "---", "--top=5", "--workers=2", "--no-such", "a" * 300] + NUMBERS

@@ -105,6 +105,9 @@ pub const SEQ: &str = "seq";
 /// The id of the option that has a refused entry end the program with a status of its own.
 pub const STRICT: &str = "strict";
 
+/// The id of the option that names the tag whose amounts are summed.
+pub const SUM: &str = "sum";
+
 /// The id of the option that has a command say what it did for programs.
 pub const SUMMARY: &str = "summary";
 

@@ -2,13 +2,14 @@
 ghost use Rattle.std.specs.Prelude.{◌≡◌, ◌∷◌, [], false, map, codes};
 ghost use Rattle.clap.specs.declared.builder.action.ArgAction.TheVariants.{SetTrue};
 
-use crate::ids::{COLUMN, DIRECT, FORMAT, MAP, ONLY, TOP, TOTAL_ONLY, WHERE, WHERE_NOT};
+use crate::ids::{COLUMN, DIRECT, FORMAT, MAP, ONLY, SUM, TOP, TOTAL_ONLY, WHERE, WHERE_NOT};
 use crate::options::{by_option, command_with, folder_option, report_format_option, top_option};
 use crate::parameter::Parameter;
 use crate::past::as_of_option;
 use crate::ranges::{from_option, last_option, month_option, to_option};
 use crate::selection::{
-    column_option, map_option, tags_option, total_only_option, where_not_option, where_option,
+    column_option, map_option, sum_option, tags_option, total_only_option, where_not_option,
+    where_option,
 };
 use crate::what_if::other_policy_option;
 use clap::Command;
@@ -44,6 +45,11 @@ CommitmentDiscountId and CommitmentDiscountStatus; tag:KEY is always a tag. An e
     values = { prod = \"production\", prd = \"production\" }
 Such a report has no ChargedCost: a policy shares the costs of a whole range by one tag.
 
+With --sum TAG a column named TAG stands behind the costs: the exact sum of the amounts that the rows of a group have in that
+tag, a column such as ListCost or ContractedCost that focusd import --keep kept. Each row counts once, as it was given:
+commitments split its costs, and not its amount. Rows that have no amount there add nothing, and how many they are is said
+on standard error. Such a report has no ChargedCost, and is no page.
+
 With --top N only the N groups that are charged most over the whole range have lines of their own; one line,
 (others), has the sums of all others.
 
@@ -73,6 +79,9 @@ Examples:
     focusd report --dir costs --tag team --last 6 months --by month --format html > costs.html
   what teams spend on production, by account
     focusd report --dir costs --tag team --column SubAccountId --where environment=production
+  what teams would have spent at list prices, which an import kept
+    focusd import --dir costs --origin aws --keep ListCost aws.csv
+    focusd report --dir costs --tag team --sum ListCost --month 2024-01
   a page for the owner of one team, with nothing of the others
     focusd report --dir costs --tag team --only search --month 2024-01 --format html > search.html
   January as it was when the warehouse had 1,204 entries
@@ -83,7 +92,7 @@ Examples:
     focusd report --dir costs --tag team --from 2024-01 --to 2024-02 --format json | jq '.total'";
 
 // What shows other groups, or has no group of one tag.
-const APART_FROM_ONLY: [&str; 6] = [TOP, DIRECT, COLUMN, WHERE, WHERE_NOT, MAP];
+const APART_FROM_ONLY: [&str; 7] = [TOP, DIRECT, COLUMN, WHERE, WHERE_NOT, MAP, SUM];
 
 // The option that shows one group alone.
 fn only_option() -> Parameter
@@ -91,7 +100,7 @@ fn only_option() -> Parameter
     ensures needed { result.is_needed ≡ false }
     ensures apart { map (λ id. id.now) result.apart.now
         ≡ (codes "top" ∷ codes "direct" ∷ codes "column" ∷ codes "where" ∷ codes "where-not"
-        ∷ codes "map" ∷ []) }
+        ∷ codes "map" ∷ codes "sum" ∷ []) }
 {
     Parameter::option(
         ONLY,
@@ -102,14 +111,14 @@ fn only_option() -> Parameter
 }
 
 // What is written otherwise, or has no sums by one tag.
-const APART_FROM_DIRECT: [&str; 7] = [TOP, FORMAT, COLUMN, WHERE, WHERE_NOT, MAP, TOTAL_ONLY];
+const APART_FROM_DIRECT: [&str; 8] = [TOP, FORMAT, COLUMN, WHERE, WHERE_NOT, MAP, SUM, TOTAL_ONLY];
 
 // The option that leaves the policy out.
 fn direct_option() -> Parameter
     ensures action { result.action ≡ SetTrue }
     ensures apart { map (λ id. id.now) result.apart.now
         ≡ (codes "top" ∷ codes "format" ∷ codes "column" ∷ codes "where" ∷ codes "where-not"
-        ∷ codes "map" ∷ codes "total-only" ∷ []) }
+        ∷ codes "map" ∷ codes "sum" ∷ codes "total-only" ∷ []) }
 {
     Parameter::flag(
         DIRECT,
@@ -127,6 +136,7 @@ pub(crate) fn command<'a>(alloc: Global) -> Result<Command<'a>, AllocError> {
         where_option(),
         where_not_option(),
         map_option(),
+        sum_option(),
         total_only_option(),
         from_option(),
         to_option(),

@@ -2,7 +2,7 @@
 ghost use Rattle.std.specs.Prelude.{◌≡◌, ◌∷◌, [], false, map, codes};
 ghost use Rattle.clap.specs.declared.builder.action.ArgAction.TheVariants.{Append, SetTrue};
 
-use crate::ids::{COLUMN, MAP, TAG, TOP, TOTAL_ONLY, WHERE, WHERE_NOT};
+use crate::ids::{COLUMN, MAP, SUM, TAG, TOP, TOTAL_ONLY, WHERE, WHERE_NOT};
 use crate::options::tag_option;
 use crate::parameter::Parameter;
 
@@ -69,6 +69,17 @@ pub(crate) fn map_option() -> Parameter
         MAP,
         "FILE",
         "Renames and joins values by the maps of a TOML file, - for standard input",
+    )
+}
+
+/// The option that names the tag whose amounts are summed.
+pub(crate) fn sum_option() -> Parameter
+    ensures { result.is_needed ≡ false }
+{
+    Parameter::option(
+        SUM,
+        "TAG",
+        "Sums the amounts of rows in this tag too, such as ListCost, which an import kept",
     )
 }
 

@@ -1,7 +1,7 @@
 //! The option that asks a warehouse under another policy.
 ghost use Rattle.std.specs.Prelude.{◌≡◌, ◌∷◌, [], false, map, codes};
 
-use crate::ids::{BY, COLUMN, DIRECT, MAP, POLICY, TOTAL_ONLY, WHERE, WHERE_NOT};
+use crate::ids::{BY, COLUMN, DIRECT, MAP, POLICY, SUM, TOTAL_ONLY, WHERE, WHERE_NOT};
 use crate::parameter::Parameter;
 
 // The option that names the file of a policy.
@@ -18,13 +18,13 @@ fn policy_file_option() -> Parameter
 }
 
 // What has no ChargedCost in a report.
-const APART_IN_A_REPORT: [&str; 6] = [DIRECT, COLUMN, WHERE, WHERE_NOT, MAP, TOTAL_ONLY];
+const APART_IN_A_REPORT: [&str; 7] = [DIRECT, COLUMN, WHERE, WHERE_NOT, MAP, SUM, TOTAL_ONLY];
 
 /// The option that names the file of another policy. What has no ChargedCost goes with none.
 pub(crate) fn other_policy_option() -> Parameter
     ensures { map (λ id. id.now) result.apart.now
         ≡ (codes "direct" ∷ codes "column" ∷ codes "where" ∷ codes "where-not" ∷ codes "map"
-        ∷ codes "total-only" ∷ []) }
+        ∷ codes "sum" ∷ codes "total-only" ∷ []) }
 {
     policy_file_option().apart_from(APART_IN_A_REPORT.as_slice())
 }

@@ -20,7 +20,7 @@ use fw_snapshot::{Snapshot, State};
 use fw_table::shown_text;
 use fw_views::{AskedHours, CoverageFormat, Question, answer, answer_of, row_hours};
 use fw_what_if::under_policy;
-use std::alloc::{AllocError, Global};
+use std::alloc::AllocError;
 use std::process::ExitCode;
 
 /// What is asked of a range of hours.
@@ -219,7 +219,7 @@ fn answer_own(
     hours: Period,
     asked: Asked<'_>,
 ) -> Result<Vec<u8>, Fault> {
-    let text = text_over(rt.alloc(), snapshot, hours, asked)?;
+    let text = text_over(rt, snapshot, hours, asked)?;
     match asked {
         Asked::Report {
             key,
@@ -247,16 +247,16 @@ pub fn say_charged(
     }
 }
 
-// The answer of a warehouse over these hours.
+// The answer of a warehouse over these hours. Of a selection with sums it is said too how many rows have no amount.
 fn text_over(
-    alloc: Global,
+    rt: &HostRuntime,
     snapshot: &Snapshot,
     hours: Period,
     asked: Asked<'_>,
 ) -> Result<Vec<u8>, Fault> {
     let Period { from, to } = hours;
     let question = match asked {
-        Asked::Selection(wanted) => return selection_text(alloc, snapshot, hours, wanted),
+        Asked::Selection(wanted) => return selection_text(rt, snapshot, hours, wanted),
         Asked::Report {
             key,
             options,
@@ -272,5 +272,5 @@ fn text_over(
         Asked::Lines => Question::Lines { from, to },
         Asked::Coverage { format } => Question::Coverage { from, to, format },
     };
-    Ok(answer_of(alloc, snapshot, &question)?)
+    Ok(answer_of(rt.alloc(), snapshot, &question)?)
 }

@@ -5,7 +5,7 @@ use crate::policy::GivenPolicy;
 use crate::range::{read_hours, wrong_hours};
 use crate::wanted::{is_selection, read_wanted};
 use clap::ArgMatches;
-use fw_command_line::{BY, DIRECT, ONLY, POLICY, TAG};
+use fw_command_line::{BY, DIRECT, FORMAT, ONLY, POLICY, SUM, TAG};
 use fw_console::{Fault, read_options, step_of, wrong_top, wrong_use};
 use fw_series::ReportOptions;
 use fw_terms::Policy;
@@ -99,6 +99,12 @@ fn print_selection(
         return Ok(wrong_use(
             rt,
             "--policy: a policy shares the costs of all lines, by one --tag",
+        ));
+    }
+    if options.contains_id(SUM) && options.get_str(FORMAT) == Some("html") {
+        return Ok(wrong_use(
+            rt,
+            "--sum: a page has no such column; take --format table, csv or json",
         ));
     }
     match read_wanted(rt, options)? {

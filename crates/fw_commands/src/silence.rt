@@ -24,7 +24,7 @@ pub(crate) fn say_left_out(
 }
 
 /// Says of a report by several keys, under filters and maps: where no row and no commitment of the hours has a tag of one of its keys, what its
-/// filters leave out, and that it has no ChargedCost.
+/// filters leave out, where no row has the tag whose amounts are summed, and that it has no ChargedCost.
 pub fn say_selected(
     rt: &HostRuntime,
     state: &State,
@@ -36,9 +36,26 @@ pub fn say_selected(
         say_key(rt, state, hours, &condition.key)?;
         say_condition(rt, condition)?;
     }
-    let _ = eprintln!(rt;
-        "ChargedCost is left out: a policy shares the costs of all lines, by one tag"
-    );
+    if let Some(tag) = wanted.sum() {
+        say_if_missing(rt, state, hours, tag)?;
+    }
+    let why = if wanted.one_tag().is_some() {
+        "a report with --sum has no policy"
+    } else {
+        "a policy shares the costs of all lines, by one tag"
+    };
+    let _ = eprintln!(rt; "ChargedCost is left out: {why}");
+    Ok(())
+}
+
+/// Says how many rows have no amount in a tag whose amounts are summed, where some have none.
+pub(crate) fn say_unsummed(rt: &HostRuntime, tag: &str, count: i128) -> Result<(), AllocError> {
+    if count == 0 {
+        return Ok(());
+    }
+    let rows = if count == 1 { "row has" } else { "rows have" };
+    let tag = shown_text(rt.alloc(), tag)?;
+    let _ = eprintln!(rt; "{count} {rows} no amount in the tag {tag}");
     Ok(())
 }
 

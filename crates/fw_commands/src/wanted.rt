@@ -5,7 +5,7 @@ ghost use Rattle.fw_console.specs.Statuses.{wrong_use_status};
 
 use clap::ArgMatches;
 use fw_calendar::Step;
-use fw_command_line::{BY, COLUMN, FORMAT, MAP, TAG, TOTAL_ONLY, WHERE, WHERE_NOT};
+use fw_command_line::{BY, COLUMN, FORMAT, MAP, SUM, TAG, TOTAL_ONLY, WHERE, WHERE_NOT};
 use fw_console::{Fault, WRONG_USE, read_options, refuse, step_of, toml_of, wrong_top, wrong_use};
 use fw_explain::explain_fault;
 use fw_select::{Column, Filter, Key, Selector, Source};
@@ -75,6 +75,8 @@ pub struct Wanted {
     pub(crate) maps: Vec<NamedMap>,
     pub(crate) step: Option<Step>,
     pub(crate) top: Option<usize>,
+    /// The tag whose amounts are summed beside the costs, where one's are.
+    pub(crate) sum: Option<String>,
     /// How it is written; none as a page.
     pub(crate) format: Option<SheetFormat>,
 }
@@ -88,6 +90,14 @@ impl Wanted {
     /// How it is written; none as a page.
     pub fn format(&self) -> Option<SheetFormat> {
         self.format
+    }
+
+    /// The tag whose amounts are summed beside the costs, where one's are.
+    pub(crate) fn sum(&self) -> Option<&str> {
+        match &self.sum {
+            Some(tag) => Some(tag.as_str()),
+            None => None,
+        }
     }
 
     /// The tag, where the groups are all values of one tag: then a policy may charge them.
@@ -195,13 +205,14 @@ fn mapped_key<'k>(key: &'k WantedKey, maps: &'k [NamedMap]) -> Key<'k> {
     }
 }
 
-/// Whether the options ask for more than the groups of one tag.
+/// Whether the options ask for more than the costs of the groups of one tag.
 pub(crate) fn is_selection(options: &ArgMatches<'_>) -> bool {
     tags_of(options).len() != 1
         || options.contains_id(COLUMN)
         || options.contains_id(WHERE)
         || options.contains_id(WHERE_NOT)
         || options.contains_id(MAP)
+        || options.contains_id(SUM)
         || options.get_flag(TOTAL_ONLY)
 }
 
@@ -230,12 +241,17 @@ pub fn read_wanted(
     let Some(maps) = read_map(rt, options.get_str(MAP))? else {
         return Ok(Err(ExitCode::FAILURE));
     };
+    let sum = match options.get_str(SUM) {
+        Some(tag) => Some(String::from_str(rt.alloc(), tag)?),
+        None => None,
+    };
     Ok(Ok(Wanted {
         keys,
         conditions,
         maps,
         step: shown.step,
         top: shown.top,
+        sum,
         format: format_of(options.get_str(FORMAT)),
     }))
 }

@@ -10,7 +10,7 @@ use Rattle.fw_money.proofs.ReadingLaws.{reads-apart, reads-one}
 use Rattle.fw_amortise.specs.Carrying.{cost_of_all}
 use Rattle.fw_amortise.specs.LineValue.{LineValue}
 use Rattle.fw_amortise.proofs.Carrying.{fold_from}
-use Rattle.fw_finops.specs.Listed.{AddsListed, AreListed, ArePrices, IsAmount, IsListed, IsPriceBy, billed_of_all, is_covered, known, listed_line, missing, sum_of_missing, sum_of_prices}
+use Rattle.fw_finops.specs.Listed.{AddsListed, AreAmountLines, AreAmounts, AreListed, ArePrices, IsAmount, IsAmountLine, IsListed, IsPriceBy, amount_line, billed_of_all, is_covered, known, listed_line, missing, sum_of_missing, sum_of_prices}
 
 -- ---- lines that are added
 zip_append : {X Y : Type 0} (R : X → Y → Type 0) (xs more : List X) (ys others : List Y) → AllZip R xs ys → AllZip R more others → AllZip R (xs ++ more) (ys ++ others)
@@ -107,6 +107,32 @@ have_prices tag hour (row ∷ rows) (line ∷ lines) listed =
       count = billed_cons line lines ∙ ap (λ x. x +ℤ billed_of_all lines) billed ∙ ap (λ x. missing price +ℤ x) rest.count ∙ sym (missing_cons price rest.prices);
     }
 
+-- the same of the amounts of rows
+amount_effective : (hour : ℕ) (row : Charge) (amount : Option ℤ) → (amount_line hour row amount).effective ≡ unwrap_or amount (pos 0)
+unfolding amount_line
+amount_effective hour row amount = known_price amount
+
+amount_billed : (hour : ℕ) (row : Charge) (amount : Option ℤ) → (amount_line hour row amount).billed ≡ missing amount
+unfolding amount_line
+amount_billed hour row amount = refl
+
+pub amounts_cost : (tag : List ℕ) (hour : ℕ) (rows : List Charge) (lines : List LineValue) → AreAmountLines tag rows hour lines → AreAmounts tag rows lines
+unfolding cost_of_all billed_of_all sum_of_prices sum_of_missing
+amounts_cost tag hour [] [] are = record { amounts = []; are_amounts = tt; cost = refl; count = refl }
+amounts_cost tag hour [] (line ∷ lines) are = absurd are
+amounts_cost tag hour (row ∷ rows) [] are = absurd are
+amounts_cost tag hour (row ∷ rows) (line ∷ lines) are =
+    let rest = amounts_cost tag hour rows lines are.1 in
+    let amount = are.0.amount in
+    let effective : line.effective ≡ unwrap_or amount (pos 0) = ap (λ (l : LineValue). l.effective) are.0.line_is ∙ amount_effective hour row amount in
+    let billed : line.billed ≡ missing amount = ap (λ (l : LineValue). l.billed) are.0.line_is ∙ amount_billed hour row amount in
+    record {
+      amounts = amount ∷ rest.amounts;
+      are_amounts = (are.0.is_amount, rest.are_amounts);
+      cost = cost_cons line lines ∙ ap (λ x. x +ℤ cost_of_all lines) effective ∙ ap (λ x. unwrap_or amount (pos 0) +ℤ x) rest.cost ∙ sym (prices_cons amount rest.amounts);
+      count = billed_cons line lines ∙ ap (λ x. x +ℤ billed_of_all lines) billed ∙ ap (λ x. missing amount +ℤ x) rest.count ∙ sym (missing_cons amount rest.amounts);
+    }
+
 pub listed_costs : (tag : List ℕ) (hour : ℕ) (rows : List Charge) (lines : List LineValue) → AreListed tag hour rows lines → ArePrices tag rows lines
 listed_costs tag hour rows lines listed =
     let have = have_prices tag hour (filter is_covered rows) lines listed in
@@ -138,3 +164,23 @@ lines_one tag hour (row ∷ rows) (x ∷ xs) (y ∷ ys) a b =
 
 pub listed_one : (tag : List ℕ) (hour : ℕ) (rows : List Charge) (xs ys : List LineValue) → AreListed tag hour rows xs → AreListed tag hour rows ys → xs ≡ ys
 listed_one tag hour rows xs ys a b = lines_one tag hour (filter is_covered rows) xs ys a b
+
+amount_line_one : (tag : List ℕ) (hour : ℕ) (row : Charge) (x y : LineValue) → IsAmountLine tag hour row x → IsAmountLine tag hour row y → x ≡ y
+amount_line_one tag hour row x y a b = a.line_is ∙ ap (amount_line hour row) (price_one tag row a.amount b.amount a.is_amount b.is_amount) ∙ sym b.line_is
+
+pub amounts_one : (tag : List ℕ) (hour : ℕ) (rows : List Charge) (xs ys : List LineValue) → AreAmountLines tag rows hour xs → AreAmountLines tag rows hour ys → xs ≡ ys
+amounts_one tag hour [] [] [] a b = refl
+amounts_one tag hour [] [] (y ∷ ys) a b = absurd b
+amounts_one tag hour [] (x ∷ xs) ys a b = absurd a
+amounts_one tag hour (row ∷ rows) [] ys a b = absurd a
+amounts_one tag hour (row ∷ rows) (x ∷ xs) [] a b = absurd b
+amounts_one tag hour (row ∷ rows) (x ∷ xs) (y ∷ ys) a b =
+    let first : x ≡ y = amount_line_one tag hour row x y a.0 b.0 in
+    ap (λ l. x ∷ l) (amounts_one tag hour rows xs ys a.1 b.1) ∙ ap (λ l. l ∷ ys) first
+
+-- one row more has one line more
+pub amounts_more : (tag : List ℕ) (hour : ℕ) (rows : List Charge) (row : Charge) (amount : Option ℤ) (line : LineValue) (lines new : List LineValue) → AreAmountLines tag rows hour lines → IsPriceBy tag row amount
+    → line ≡ amount_line hour row amount → new ≡ lines ++ line ∷ [] → AreAmountLines tag (rows ++ row ∷ []) hour new
+amounts_more tag hour rows row amount line lines new are priced is added =
+    let at_amount : IsAmountLine tag hour row line = record { amount = amount; is_amount = priced; line_is = is } in
+    subst (AreAmountLines tag (rows ++ row ∷ []) hour) (sym added) (zip_append (IsAmountLine tag hour) rows (row ∷ []) lines (line ∷ []) are (at_amount, tt))

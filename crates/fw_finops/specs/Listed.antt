@@ -1,4 +1,4 @@
--- What rows that providers' commitments cover cost at a price that a tag of each row has.
+-- What rows cost at an amount that a tag of each has: those that providers' commitments cover at a price, and all rows at an amount.
 use Rattle.std.specs.Prelude.{◌≡◌, ◌++◌, ◌+ℤ◌, ℕ, ℤ, pos, Bool, true, false, List, [], filter, fold, map, Option, None, Some, Ok, Err, unwrap_or}
 use Rattle.std.specs.List.{AllZip}
 use Rattle.std.specs.Option.{option_map_or}
@@ -77,6 +77,21 @@ pub record AddsListed (tag : Option (List ℕ)) (hour : ℕ) (rows : List Charge
 abbrev pub ArePricedLines : List CommitmentValue → Option (List ℕ) → List Charge → ℕ → List LineValue → Type 0
 ArePricedLines cs tag rows hour lines = AddsListed tag hour rows (price_lines cs rows hour) lines
 
+-- ---- all rows
+
+-- a row by itself at its amount in a tag. The count of an amount that is missing stands as BilledCost here too
+unfoldable pub amount_line : ℕ → Charge → Option ℤ → LineValue
+amount_line hour row amount = record (given_line hour row) { billed = missing amount; effective = known amount }
+
+pub record IsAmountLine (tag : List ℕ) (hour : ℕ) (row : Charge) (line : LineValue) : Type 0 where
+  pub amount : Option ℤ
+  pub is_amount : IsPriceBy tag row amount
+  pub line_is : line ≡ amount_line hour row amount
+
+-- the lines of rows at their amounts in a tag: one for each row, in their order
+abbrev pub AreAmountLines : List ℕ → List Charge → ℕ → List LineValue → Type 0
+AreAmountLines tag rows hour lines = AllZip (IsAmountLine tag hour) rows lines
+
 -- ---- what they come to
 
 -- the sum of prices, where what is missing adds nothing; and how many are missing
@@ -89,6 +104,13 @@ sum_of_missing prices = fold ◌+ℤ◌ (pos 0) (map missing prices)
 -- the sum of the billed costs of lines
 unfoldable pub billed_of_all : List LineValue → ℤ
 billed_of_all lines = fold ◌+ℤ◌ (pos 0) (map (λ line. line.billed) lines)
+
+-- the amounts of rows; their sum is what the lines cost, and as many are missing as the lines say
+pub record AreAmounts (tag : List ℕ) (rows : List Charge) (lines : List LineValue) : Type 0 where
+  pub amounts : List (Option ℤ)
+  pub are_amounts : AllZip (IsPriceBy tag) rows amounts
+  pub cost : cost_of_all lines ≡ sum_of_prices amounts
+  pub count : billed_of_all lines ≡ sum_of_missing amounts
 
 -- the prices of the rows that are covered; their sum is what the lines cost, and as many are missing as the lines say
 pub record ArePrices (tag : List ℕ) (rows : List Charge) (lines : List LineValue) : Type 0 where

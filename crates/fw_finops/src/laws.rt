@@ -10,7 +10,7 @@ ghost use Rattle.fw_cover.specs.Cover.{used_of};
 ghost use Rattle.fw_cover.specs.Hour.{hour_cover, quantity_of};
 ghost use Rattle.fw_finops.specs.Costs.{coverable_in, covered_in, is_amortised, uncovered_in, whole_lines};
 ghost use Rattle.fw_finops.specs.Lines.{counts, covered_lines, is_beside, most_of, price_lines};
-ghost use Rattle.fw_finops.specs.Listed.{AreListed, ArePrices, billed_of_all};
+ghost use Rattle.fw_finops.specs.Listed.{AreAmountLines, AreAmounts, AreListed, ArePrices, billed_of_all};
 ghost use Rattle.fw_finops.specs.Usable.{usable, usable_of};
 ghost use Rattle.fw_terms.specs.Commitment.{CommitmentValue};
 
@@ -53,6 +53,18 @@ pub fn listed_lines_cost_what_their_prices_do()
 pub fn listed_lines_are_one()
     ensures { (tag : List ℕ) (hour : ℕ) (rows : List Charge) (xs ys : List LineValue)
         → AreListed tag hour rows xs → AreListed tag hour rows ys → xs ≡ ys }
+{}
+
+/// The lines of rows at their amounts in a tag cost together what these amounts do, to the last nano, and count the amounts that are missing.
+pub fn lines_at_amounts_cost_what_their_amounts_do()
+    ensures { (tag : List ℕ) (hour : ℕ) (rows : List Charge) (lines : List LineValue)
+        → AreAmountLines tag rows hour lines → AreAmounts tag rows lines }
+{}
+
+/// Rows have one list of such lines at most.
+pub fn lines_at_amounts_are_one()
+    ensures { (tag : List ℕ) (hour : ℕ) (rows : List Charge) (xs ys : List LineValue)
+        → AreAmountLines tag rows hour xs → AreAmountLines tag rows hour ys → xs ≡ ys }
 {}
 
 /// The lines beside a commitment say together, as BilledCost, what the rows of an hour could have used of it: of the commitments with an id, of which

@@ -1,13 +1,14 @@
-//! What rows that providers' commitments cover cost at a price that a tag of each row has.
-ghost use Rattle.std.specs.Prelude.{◌≡◌, ◌∷◌, [], OnOk, Some, map, option_copied};
-ghost use Rattle.fw_finops.specs.Listed.{AddsListed, IsAmount, IsPriceBy, is_covered, is_used, known, listed_line, missing};
+//! What rows cost at an amount that a tag of each has: those that providers' commitments cover at a price, and all rows at an amount.
+ghost use Rattle.std.specs.Prelude.{◌≡◌, ◌∷◌, [], IfOk, OnOk, Some, map, option_copied};
+ghost use Rattle.fw_amortise.specs.Lines.{given_line};
+ghost use Rattle.fw_finops.specs.Listed.{AddsListed, AreAmountLines, IsAmount, IsPriceBy, amount_line, is_covered, is_used, known, listed_line, missing};
 
 use crate::open::discount_of_row;
 use fw_amortise::{Line, LineFields, LineKind};
 use fw_charge::DiscountStatus;
 use fw_money::{Nanos, parse};
 use fw_row_table::LentRow;
-use std::alloc::AllocError;
+use std::alloc::{AllocError, Global};
 
 // Whether a status says that something was used.
 fn is_used(status: Option<DiscountStatus>) -> bool
@@ -70,13 +71,33 @@ fn known(price: &Option<Nanos>) -> Nanos
 }
 
 // A row that is covered, at its price.
-#[tactic(auto, unfolding(crate::specs::Listed::listed_line, fw_amortise::specs::Lines::given_line))]
+#[tactic(auto, unfolding(crate::specs::Listed::listed_line))]
 fn listed_line<'a>(row: &LentRow<'a>, price: &Option<Nanos>, hour: u32) -> Line<'a>
     ensures { result ≡ listed_line hour row.now price.now }
 {
+    line_at(row, LineKind::Used, price, hour)
+}
+
+// A row by itself, at its amount.
+#[tactic(auto, unfolding(crate::specs::Listed::amount_line, fw_amortise::specs::Lines::given_line))]
+fn amount_line<'a>(row: &LentRow<'a>, amount: &Option<Nanos>, hour: u32) -> Line<'a>
+    ensures { result ≡ amount_line hour row.now amount.now }
+{
+    line_at(row, LineKind::Given, amount, hour)
+}
+
+// A row as a line of a kind, at a price.
+#[tactic(auto, unfolding(fw_amortise::specs::Lines::given_line))]
+fn line_at<'a>(row: &LentRow<'a>, kind: LineKind, price: &Option<Nanos>, hour: u32) -> Line<'a>
+    ensures { result ≡ record (given_line hour row.now) {
+      kind = kind;
+      billed = missing price.now;
+      effective = known price.now;
+    } }
+{
     Line::of_fields(LineFields {
         hour,
-        kind: LineKind::Used,
+        kind,
         category: row.category(),
         commitment: discount_of_row(row),
         billed: missing(price),
@@ -136,4 +157,29 @@ pub(crate) fn push_listed_by<'a>(
         Some(tag) => push_listed(lines, rows, tag, hour),
         None => Ok(()),
     }
+}
+
+/// The lines of an hour's rows at their amounts in a tag: one for each row, in their order.
+///
+/// The amount is what the text of the row's tag reads as, and stands as EffectiveCost. Where the row has no such tag, or its text is no amount,
+/// EffectiveCost is 0 and BilledCost is one nano, so that sums of it count such rows; else it is 0. Commitments split no row here. The lines
+/// lend the texts and tags of the rows.
+///
+/// # Errors
+/// The one error is that memory ran out.
+pub fn lines_at_amounts<'a>(
+    alloc: Global,
+    rows: &[&LentRow<'a>],
+    hour: u32,
+    tag: &str,
+) -> Result<Vec<Line<'a>>, AllocError>
+    ensures { IfOk result (λ lines.
+        AreAmountLines tag.now (map (λ r. r.now) rows.now) hour lines.items) }
+{
+    let mut lines = Vec::with_capacity(alloc, rows.len())?;
+    for row in rows {
+        let amount = price_by(row, tag);
+        lines.push(amount_line(row, &amount, hour))?;
+    }
+    Ok(lines)
 }

@@ -1,7 +1,7 @@
 -- Lemmas on what lines bring, and on lines that are counted hour by hour.
 use Rattle.std.proofs.Common.{◌≡◌, ◌∙◌, ℕ, ◌+◌, ◌-◌, false, Bool, true, List, [], ◌∷◌, ◌++◌, length, map, filter, take, get_or, ◌<◌, subst, sym, ap, refl, arith, append-nil, append_assoc}
 use Rattle.std.proofs.lemmas.Grind.{flat_map-append}
-use Rattle.std.proofs.lemmas.List.{map-append, take_more}
+use Rattle.std.proofs.lemmas.List.{map-append, map_more, take_more}
 use Rattle.std.proofs.lemmas.List.Elements.{filter-append}
 use Rattle.std.specs.List.{range_with_len}
 use Rattle.fw_charge.specs.Charge.{Charge}
@@ -13,7 +13,7 @@ use Rattle.fw_sums.specs.RangeLines.{joined}
 use Rattle.fw_sums.proofs.RangeFacts.{hourly-more, hourly_zip}
 use Rattle.fw_sums.proofs.UntouchedFacts.{are_plain, plain_lines}
 use Rattle.fw_select.specs.Counting.{CountsHour, CountsHours, HasTotals}
-use Rattle.fw_select.specs.Groups.{AreTotals, GroupCost}
+use Rattle.fw_select.specs.Groups.{AreTotals, GroupCost, as_amount}
 use Rattle.fw_select.specs.Rows.{plain_line}
 use Rattle.fw_select.specs.Selectors.{costs_of, is_taken, line_cost}
 use Rattle.fw_select.specs.Table.{AreSums}
@@ -28,6 +28,19 @@ pub one_more : (s : Selector) (before : List GroupCost) (lines : List LineValue)
 one_more s before lines i line below is =
     append_assoc before (costs_of s (take i lines)) (costs_of s (line ∷ []))
     ∙ ap (λ l. before ++ l) (sym (costs_of-append s (take i lines) (line ∷ [])) ∙ ap (costs_of s) (ap (λ y. take i lines ++ y ∷ []) is ∙ sym (take_more lines i line below)))
+
+-- one more group of a list is counted
+pub group_more : (before groups : List GroupCost) (i : ℕ) (group : GroupCost) → i < length groups → group ≡ get_or groups i group
+    → (before ++ take i groups) ++ group ∷ [] ≡ before ++ take (i + 1) groups
+group_more before groups i group below is =
+    append_assoc before (take i groups) (group ∷ []) ∙ ap (λ l. before ++ l) (ap (λ y. take i groups ++ y ∷ []) is ∙ sym (take_more groups i group below))
+
+-- one more group of a list is counted as an amount
+pub amount_more : (before groups : List GroupCost) (i : ℕ) (group : GroupCost) → i < length groups → group ≡ get_or groups i group
+    → (before ++ map as_amount (take i groups)) ++ as_amount group ∷ [] ≡ before ++ map as_amount (take (i + 1) groups)
+amount_more before groups i group below is =
+    append_assoc before (map as_amount (take i groups)) (as_amount group ∷ [])
+    ∙ ap (λ l. before ++ l) (ap (λ y. map as_amount (take i groups) ++ as_amount y ∷ []) is ∙ sym (map_more as_amount groups i group below))
 
 -- a line that is taken brings its costs, and another brings nothing
 pub costs_of-taken : (s : Selector) (line : LineValue) → is_taken s line ≡ true → costs_of s (line ∷ []) ≡ line_cost s line ∷ []

@@ -107,7 +107,7 @@ totals_of_both held failed whole a b all any sums are_held are_failed are = reco
         let here = is_member-Decides is_same-Decides (groups_of (a ++ b)) g in
         (λ h. here.0 (same g ∙ there.1 ((are.are_groups.each g).0 h)), λ h. (are.are_groups.each g).1 (there.0 (sym (same g) ∙ here.1 h)));
   };
-  totals_are = are.totals_are ∙ same_totals whole (a ++ b) are.groups (λ g. λ j. record { group = g; billed = sum (λ c. c.billed) (λ c. refl) (λ costs h. refl) g j; effective = sum (λ c. c.effective) (λ c. refl) (λ costs h. refl) g j });
+  totals_are = are.totals_are ∙ same_totals whole (a ++ b) are.groups (λ g. λ j. record { group = g; billed = sum (λ c. c.billed) (λ c. refl) (λ costs h. refl) g j; effective = sum (λ c. c.effective) (λ c. refl) (λ costs h. refl) g j; amount = sum (λ c. c.amount) (λ c. refl) (λ costs h. refl) g j });
 }
   where
     same : (g : List (List ℕ)) → list_any (is_same g) (groups_of (a ++ b)) ≡ list_any (is_same g) (groups_of whole)
@@ -115,7 +115,7 @@ totals_of_both held failed whole a b all any sums are_held are_failed are = reco
         ap (list_any (is_same g)) (map-append (λ c. c.group) a b) ∙ list_any-append (is_same g) (groups_of a) (groups_of b)
         ∙ (λ j. totals_have held a are_held (is_same g) j || totals_have failed b are_failed (is_same g) j) ∙ sym (any g)
 
-    sum : (pick : GroupCost → ℤ) → ((c : GroupCost) → pick (record { group = c.group; billed = c.billed; effective = c.effective }) ≡ pick c) → ((costs : List GroupCost) (h : List (List ℕ)) → pick (total_of costs h) ≡ sum_in pick costs h)
+    sum : (pick : GroupCost → ℤ) → ((c : GroupCost) → pick (record { group = c.group; billed = c.billed; effective = c.effective; amount = c.amount }) ≡ pick c) → ((costs : List GroupCost) (h : List (List ℕ)) → pick (total_of costs h) ≡ sum_in pick costs h)
         → (g : List (List ℕ)) → sum_in pick whole g ≡ sum_in pick (a ++ b) g
     sum pick keeps is g =
         sums pick g ∙ (λ j. sym (totals_sum pick keeps held a (is held) are_held g) j +ℤ sym (totals_sum pick keeps failed b (is failed) are_failed g) j) ∙ sym (sum_in-append pick a b g)
@@ -126,8 +126,8 @@ split held failed s lines a b all is are_held are_failed are =
     totals_of_both (map (line_cost s) (filter (is_taken held) lines)) (map (line_cost s) (filter (is_taken failed) lines)) (costs_of s lines) a b all
     (λ g. split_any (line_cost s) (is_taken s) (is_taken held) (is_taken failed) (fails is.one) takes_yes takes_no (is_same g) lines)
     (λ pick g. split_sum (line_cost s) (is_taken s) (is_taken held) (is_taken failed) (fails is.one) takes_yes takes_no pick lines g)
-    (subst (λ c. AreTotals c a) (λ i. map (λ line. record { group = group_by (is.yes_keys i) line; billed = line.billed; effective = line.effective }) (filter (is_taken held) lines)) are_held)
-    (subst (λ c. AreTotals c b) (λ i. map (λ line. record { group = group_by (is.no_keys i) line; billed = line.billed; effective = line.effective }) (filter (is_taken failed) lines)) are_failed)
+    (subst (λ c. AreTotals c a) (λ i. map (λ line. record { group = group_by (is.yes_keys i) line; billed = line.billed; effective = line.effective; amount = pos 0 }) (filter (is_taken held) lines)) are_held)
+    (subst (λ c. AreTotals c b) (λ i. map (λ line. record { group = group_by (is.no_keys i) line; billed = line.billed; effective = line.effective; amount = pos 0 }) (filter (is_taken failed) lines)) are_failed)
     are
   where
     takes_yes : (line : LineValue) → is_taken held line ≡ (is_taken s line && not (fails is.one line))

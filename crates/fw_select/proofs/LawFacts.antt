@@ -100,12 +100,12 @@ sum_in-cons pick c costs g = by (is_same g c.group) refl
         rw (e, met) (omega (arith, ints))
 
 module _ (pick : GroupCost → ℤ) (f : List (List ℕ) → List (List ℕ))
-    (keeps : (c : GroupCost) → pick (record { group = f c.group; billed = c.billed; effective = c.effective }) ≡ pick c) where
+    (keeps : (c : GroupCost) → pick (record { group = f c.group; billed = c.billed; effective = c.effective; amount = c.amount }) ≡ pick c) where
   -- the sum under another group, line by line
   sum_regrouped : (costs : List GroupCost) (g : List (List ℕ)) → sum_in pick (regrouped f costs) g ≡ sum_of (λ c. when (is_same g (f c.group)) (pick c)) costs
   sum_regrouped [] g = sum_in-nothing pick g
   sum_regrouped (c ∷ costs) g =
-      sum_in-cons pick (record { group = f c.group; billed = c.billed; effective = c.effective }) (regrouped f costs) g
+      sum_in-cons pick (record { group = f c.group; billed = c.billed; effective = c.effective; amount = c.amount }) (regrouped f costs) g
       ∙ (λ j. cond (is_same-symm (f c.group) g j) (keeps c j) (pos 0) +ℤ sum_regrouped costs g j)
       ∙ sym (total_cons (when (is_same g (f c.group)) (pick c)) (map (λ c. when (is_same g (f c.group)) (pick c)) costs))
 
@@ -189,7 +189,7 @@ totals_have costs totals are P =
     ∙ both (list_any P are.groups) (list_any P (groups_of costs)) (any_sub P are.groups (groups_of costs) (λ x m. sym (member costs totals are x) ∙ m)) (any_sub P (groups_of costs) are.groups (λ x m. member costs totals are x ∙ m))
 
 -- the sums of totals under other groups are those of the lines
-pub totals_sum_under : (f : List (List ℕ) → List (List ℕ)) (pick : GroupCost → ℤ) → ((c : GroupCost) → pick (record { group = f c.group; billed = c.billed; effective = c.effective }) ≡ pick c)
+pub totals_sum_under : (f : List (List ℕ) → List (List ℕ)) (pick : GroupCost → ℤ) → ((c : GroupCost) → pick (record { group = f c.group; billed = c.billed; effective = c.effective; amount = c.amount }) ≡ pick c)
     → (costs totals : List GroupCost) → ((h : List (List ℕ)) → pick (total_of costs h) ≡ sum_in pick costs h) → AreTotals costs totals → (g : List (List ℕ)) → sum_in pick (regrouped f totals) g ≡ sum_in pick (regrouped f costs) g
 totals_sum_under f pick keeps costs totals is are g =
     sum_regrouped pick f keeps totals g
@@ -198,7 +198,7 @@ totals_sum_under f pick keeps costs totals is are g =
     ∙ sum_of_groups pick (λ h. is_same g (f h)) costs are.groups are.are_groups.rising (λ x m. member costs totals are x ∙ m)
     ∙ sym (sum_regrouped pick f keeps costs g)
 
-pub totals_sum : (pick : GroupCost → ℤ) → ((c : GroupCost) → pick (record { group = c.group; billed = c.billed; effective = c.effective }) ≡ pick c)
+pub totals_sum : (pick : GroupCost → ℤ) → ((c : GroupCost) → pick (record { group = c.group; billed = c.billed; effective = c.effective; amount = c.amount }) ≡ pick c)
     → (costs totals : List GroupCost) → ((h : List (List ℕ)) → pick (total_of costs h) ≡ sum_in pick costs h) → AreTotals costs totals → (g : List (List ℕ)) → sum_in pick totals g ≡ sum_in pick costs g
 totals_sum pick keeps costs totals is are g =
     ap (λ l. sum_in pick l g) (sym (map-id totals)) ∙ totals_sum_under (λ h. h) pick keeps costs totals is are g ∙ ap (λ l. sum_in pick l g) (map-id costs)
@@ -218,6 +218,7 @@ totals_of_totals f costs totals fewer are few = record {
     group = g;
     billed = totals_sum_under f (λ c. c.billed) (λ c. refl) costs totals (λ h. refl) are g j;
     effective = totals_sum_under f (λ c. c.effective) (λ c. refl) costs totals (λ h. refl) are g j;
+    amount = totals_sum_under f (λ c. c.amount) (λ c. refl) costs totals (λ h. refl) are g j;
   }));
 }
   where
@@ -235,7 +236,7 @@ costs_regrouped s other f taken grouped (line ∷ lines) =
   where
     by : (b : Bool) → costs_of other lines ≡ regrouped f (costs_of s lines)
         → map (line_cost other) (cond b (line ∷ filter (is_taken other) lines) (filter (is_taken other) lines)) ≡ regrouped f (map (line_cost s) (cond b (line ∷ filter (is_taken s) lines) (filter (is_taken s) lines)))
-    by true rest = λ j. record { group = grouped line j; billed = line.billed; effective = line.effective } ∷ rest j
+    by true rest = λ j. record { group = grouped line j; billed = line.billed; effective = line.effective; amount = pos 0 } ∷ rest j
     by false rest = rest
 
 values_without : (place : ℕ) (keys : List Key) (line : LineValue) → group_by (without place keys) line ≡ without place (group_by keys line)

@@ -70,7 +70,7 @@ sums_of-IsPermutation : (xs ys : List GroupCost) (g : List (List ℕ)) → IsPer
 unfolding sums_of
 sums_of-IsPermutation xs ys g moved = λ j. sums_when
     (sym (list_any-IsPermutation (is_same g) (groups_of xs) (groups_of ys) (IsPermutation-map (λ (c : GroupCost). c.group) xs ys moved)) j)
-    (sum_in-IsPermutation (λ c. c.billed) xs ys g moved j) (sum_in-IsPermutation (λ c. c.effective) xs ys g moved j)
+    (sum_in-IsPermutation (λ c. c.billed) xs ys g moved j) (sum_in-IsPermutation (λ c. c.effective) xs ys g moved j) (sum_in-IsPermutation (λ c. c.amount) xs ys g moved j)
 
 -- what was counted in one order was counted in the other
 pub AreSums-moved : (table : Table) (before xs ys : List GroupCost) → IsPermutation xs ys → AreSums table (before ++ xs) → AreSums table (before ++ ys)

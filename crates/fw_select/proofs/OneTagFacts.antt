@@ -1,5 +1,5 @@
 -- A selector of one tag beside a report by that tag.
-use Rattle.std.proofs.Common.{◌≡◌, ◌∙◌, ℕ, List, [], ◌∷◌, map, filter, cond, true, refl, ap}
+use Rattle.std.proofs.Common.{◌≡◌, ◌∙◌, ℕ, pos, List, [], ◌∷◌, map, filter, cond, true, refl, ap}
 use Rattle.fw_amortise.specs.LineValue.{LineValue}
 use Rattle.fw_charge.specs.Tags.{group_of}
 use Rattle.fw_sums.specs.Costs as sums
@@ -29,4 +29,4 @@ pub counts_the_same : (name : List ℕ) (s : Selector) (lines : List LineValue) 
 counts_the_same name s [] is = refl
 counts_the_same name s (line ∷ lines) is =
     first_is s line lines (taken name s line is)
-    ∙ (λ j. record { group = group_is name s line is j; billed = line.billed; effective = line.effective } ∷ counts_the_same name s lines is j)
+    ∙ (λ j. record { group = group_is name s line is j; billed = line.billed; effective = line.effective; amount = pos 0 } ∷ counts_the_same name s lines is j)

@@ -59,7 +59,7 @@ taken_same s a b same = ap not (some_fails s.filters.now a b (all_of (SameText a
 cost_same : (s : Selector) (a b : LineValue) → LookSame a b → line_cost s a ≡ line_cost s b
 cost_same s a b same =
     let groups : group_on s a ≡ group_on s b = group_same s.keys.now a b (all_of (SameText a b) (same_text a b same) (map (λ k. k.source) s.keys.now)) in
-    λ j. record { group = groups j; billed = same.billed j; effective = same.effective j }
+    λ j. record { group = groups j; billed = same.billed j; effective = same.effective j; amount = pos 0 }
 
 -- one such line in front of others
 brings_same : (s : Selector) (a b : LineValue) (xs ys : List LineValue) → LookSame a b → costs_of s xs ≡ costs_of s ys → costs_of s (a ∷ xs) ≡ costs_of s (b ∷ ys)

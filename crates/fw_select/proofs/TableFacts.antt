@@ -35,8 +35,8 @@ Kept = Vec (String Global) Global
 -- ---- the sums, with one more line
 
 -- the sums, where there is a line
-abbrev pub sums_when : Bool → ℤ → ℤ → Option Sums
-sums_when there billed effective = cond there (Some (record { billed = billed; effective = effective })) None
+abbrev pub sums_when : Bool → ℤ → ℤ → ℤ → Option Sums
+sums_when there billed effective amount = cond there (Some (record { billed = billed; effective = effective; amount = amount })) None
 
 or_true : (b : Bool) → (b || true) ≡ true
 or_true true = refl
@@ -57,24 +57,25 @@ sums_of-more costs c g = by (is_same g c.group) refl
     there-more : (b : Bool) → is_same g c.group ≡ b → list_any (is_same g) (groups_of (costs ++ c ∷ [])) ≡ (there || (b || false))
     there-more b e = ap (list_any (is_same g)) (map-append (λ l. l.group) costs (c ∷ [])) ∙ list_any-append (is_same g) (groups_of costs) (c.group ∷ []) ∙ ap (λ x. there || (x || false)) e
 
-    grown : (b : Bool) → there ≡ b → Some (record { billed = sum_in (λ l. l.billed) costs g +ℤ c.billed; effective = sum_in (λ l. l.effective) costs g +ℤ c.effective }) ≡ Some (added c (sums_when b (sum_in (λ l. l.billed) costs g) (sum_in (λ l. l.effective) costs g)))
+    grown : (b : Bool) → there ≡ b → Some (record { billed = sum_in (λ l. l.billed) costs g +ℤ c.billed; effective = sum_in (λ l. l.effective) costs g +ℤ c.effective; amount = sum_in (λ l. l.amount) costs g +ℤ c.amount }) ≡ Some (added c (sums_when b (sum_in (λ l. l.billed) costs g) (sum_in (λ l. l.effective) costs g) (sum_in (λ l. l.amount) costs g)))
     grown true h = refl
     grown false h = λ j. Some (record {
       billed = (ap (λ z. z +ℤ c.billed) (sum_in-none (λ l. l.billed) costs g h) ∙ zero_plus c.billed) j;
       effective = (ap (λ z. z +ℤ c.effective) (sum_in-none (λ l. l.effective) costs g h) ∙ zero_plus c.effective) j;
+      amount = (ap (λ z. z +ℤ c.amount) (sum_in-none (λ l. l.amount) costs g h) ∙ zero_plus c.amount) j;
     })
 
     by : (b : Bool) → is_same g c.group ≡ b → sums_of (costs ++ c ∷ []) g ≡ update is_same (sums_of costs) c.group (Some (added c (sums_of costs c.group))) g
     by true e =
         let same : g ≡ c.group = (is_same-Decides g c.group).0 e in
         let met : is_same c.group g ≡ true = is_same-symm c.group g ∙ e in
-        (λ j. sums_when ((there-more true e ∙ or_true there) j) (sum_in-more (λ l. l.billed) costs c g e j) (sum_in-more (λ l. l.effective) costs c g e j))
+        (λ j. sums_when ((there-more true e ∙ or_true there) j) (sum_in-more (λ l. l.billed) costs c g e j) (sum_in-more (λ l. l.effective) costs c g e j) (sum_in-more (λ l. l.amount) costs c g e j))
         ∙ grown there refl
         ∙ ap (λ q. Some (added c (sums_of costs q))) same
         ∙ sym (ap (λ b. cond b (Some (added c (sums_of costs c.group))) (sums_of costs g)) met)
     by false e =
         let met : is_same c.group g ≡ false = is_same-symm c.group g ∙ e in
-        (λ j. sums_when ((there-more false e ∙ or_false there) j) (sum_in-other (λ l. l.billed) costs c g e j) (sum_in-other (λ l. l.effective) costs c g e j))
+        (λ j. sums_when ((there-more false e ∙ or_false there) j) (sum_in-other (λ l. l.billed) costs c g e j) (sum_in-other (λ l. l.effective) costs c g e j) (sum_in-other (λ l. l.amount) costs c g e j))
         ∙ sym (ap (λ b. cond b (Some (added c (sums_of costs c.group))) (sums_of costs g)) met)
 
 -- one more line counted
@@ -253,7 +254,7 @@ unfolding sums_of
 is_some-sums_of costs g = elim (list_any (is_same g) (groups_of costs)) as (λ b. is_some (cond b (Some sums) None) ≡ b) [ true ↦ refl | false ↦ refl ]
   where
     sums : Sums
-    sums = record { billed = sum_in (λ c. c.billed) costs g; effective = sum_in (λ c. c.effective) costs g }
+    sums = record { billed = sum_in (λ c. c.billed) costs g; effective = sum_in (λ c. c.effective) costs g; amount = sum_in (λ c. c.amount) costs g }
 
 -- what a look-up finds, with another key before the entries
 found_behind : (k : Kept) (v : Sums) (all es : List (Kept × Sums)) → AllByRecursion (λ y. kept_eq k y ≡ false) (keys_of es)
@@ -276,11 +277,11 @@ each_weaker P Q f [] h = tt
 each_weaker P Q f (x ∷ xs) h = (f x h.0, each_weaker P Q f xs h.1)
 
 -- sums that are kept are the sums over the lines
-kept_is : (costs : List GroupCost) (g : List (List ℕ)) (s : Sums) → sums_of costs g ≡ Some s → s ≡ record { billed = sum_in (λ c. c.billed) costs g; effective = sum_in (λ c. c.effective) costs g }
+kept_is : (costs : List GroupCost) (g : List (List ℕ)) (s : Sums) → sums_of costs g ≡ Some s → s ≡ record { billed = sum_in (λ c. c.billed) costs g; effective = sum_in (λ c. c.effective) costs g; amount = sum_in (λ c. c.amount) costs g }
 unfolding sums_of
 kept_is costs g s is = by (list_any (is_same g) (groups_of costs)) is
   where
-    by : (b : Bool) → cond b (Some (record { billed = sum_in (λ c. c.billed) costs g; effective = sum_in (λ c. c.effective) costs g })) None ≡ Some s → s ≡ record { billed = sum_in (λ c. c.billed) costs g; effective = sum_in (λ c. c.effective) costs g }
+    by : (b : Bool) → cond b (Some (record { billed = sum_in (λ c. c.billed) costs g; effective = sum_in (λ c. c.effective) costs g; amount = sum_in (λ c. c.amount) costs g })) None ≡ Some s → s ≡ record { billed = sum_in (λ c. c.billed) costs g; effective = sum_in (λ c. c.effective) costs g; amount = sum_in (λ c. c.amount) costs g }
     by true h = cc
     by false h = absurd (cc)
 

@@ -5,11 +5,12 @@ use Rattle.std.specs.List.Sorted.{IsStrictlySortedBy}
 use Rattle.std.specs.Ordering.{nat_cmp}
 use Rattle.std.specs.Str.{bytes_eq}
 
--- what one line brings: the texts of the group that it is in, and its costs in nanos
+-- what one line brings: the texts of the group that it is in, its costs in nanos, and an amount beside them
 pub record GroupCost : Type 0 where
   pub group : List (List ℕ)
   pub billed : ℤ
   pub effective : ℤ
+  pub amount : ℤ
 
 -- whether two groups are one
 abbrev pub is_same : List (List ℕ) → List (List ℕ) → Bool
@@ -38,7 +39,11 @@ pub record AreGroups (costs : List GroupCost) (groups : List (List (List ℕ))) 
 
 -- what the lines of a group come to
 abbrev pub total_of : List GroupCost → List (List ℕ) → GroupCost
-total_of costs group = record { group = group; billed = sum_in (λ c. c.billed) costs group; effective = sum_in (λ c. c.effective) costs group }
+total_of costs group = record { group = group; billed = sum_in (λ c. c.billed) costs group; effective = sum_in (λ c. c.effective) costs group; amount = sum_in (λ c. c.amount) costs group }
+
+-- the EffectiveCost of a group as an amount beside no costs
+abbrev pub as_amount : GroupCost → GroupCost
+as_amount g = record { group = g.group; billed = pos 0; effective = pos 0; amount = g.effective }
 
 -- the totals of the groups that some line is in, in rising order of the groups
 pub record AreTotals (costs : List GroupCost) (totals : List GroupCost) : Type 0 where

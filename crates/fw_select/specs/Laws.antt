@@ -1,5 +1,5 @@
 -- Groups under other groups. The laws speak of it.
-use Rattle.std.specs.Prelude.{◌≡◌, ◌++◌, ◌∷◌, not, ℕ, zero, suc, List, [], map, None}
+use Rattle.std.specs.Prelude.{◌≡◌, ◌++◌, ◌∷◌, not, ℕ, pos, zero, suc, List, [], map, None}
 use Rattle.std.specs.Borrow.{Bor}
 use Rattle.fw_sums.specs.Costs.{Cost}
 use Rattle.fw_select.specs.Groups.{GroupCost}
@@ -11,7 +11,7 @@ use Rattle.fw_select.specs.declared.selector.Selector.{Selector}
 
 -- the same costs, each in the group that is made of its own
 abbrev pub regrouped : (List (List ℕ) → List (List ℕ)) → List GroupCost → List GroupCost
-regrouped f costs = map (λ c. record { group = f c.group; billed = c.billed; effective = c.effective }) costs
+regrouped f costs = map (λ c. record { group = f c.group; billed = c.billed; effective = c.effective; amount = c.amount }) costs
 
 -- a list without what is at a place
 abbrev pub without : {X : Type 0} → ℕ → List X → List X
@@ -57,7 +57,7 @@ pub record AreSplit (yes no s : Selector) : Type 0 where
 
 -- what a report by one tag counts of lines, as groups of one text
 abbrev pub of_one_text : List Cost → List GroupCost
-of_one_text costs = map (λ c. record { group = c.group ∷ []; billed = c.billed; effective = c.effective }) costs
+of_one_text costs = map (λ c. record { group = c.group ∷ []; billed = c.billed; effective = c.effective; amount = pos 0 }) costs
 
 -- a selector whose one key is a tag without a map, and which has no filter
 pub record IsOneTag (name : List ℕ) (s : Selector) : Type 0 where

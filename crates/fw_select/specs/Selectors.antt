@@ -1,5 +1,5 @@
 -- Which lines a selector takes, and what each of them brings.
-use Rattle.std.specs.Prelude.{ℕ, Bool, not, List, map, filter, if◌then◌else◌}
+use Rattle.std.specs.Prelude.{ℕ, pos, Bool, not, List, map, filter, if◌then◌else◌}
 use Rattle.std.specs.Borrow.{Bor}
 use Rattle.std.specs.List.{list_any}
 use Rattle.std.specs.Str.{bytes_eq}
@@ -32,9 +32,9 @@ group_by keys line = map (λ k. value k line) keys
 abbrev pub group_on : Selector → LineValue → List (List ℕ)
 group_on s line = group_by s.keys.now line
 
--- what a line brings
+-- what a line brings: its costs, and no amount beside them
 abbrev pub line_cost : Selector → LineValue → GroupCost
-line_cost s line = record { group = group_on s line; billed = line.billed; effective = line.effective }
+line_cost s line = record { group = group_on s line; billed = line.billed; effective = line.effective; amount = pos 0 }
 
 -- what the lines bring that the selector takes
 abbrev pub costs_of : Selector → List LineValue → List GroupCost

@@ -32,7 +32,7 @@ has_texts group kept = is_same group (texts_of kept)
 unfoldable pub sums_of : List GroupCost → List (List ℕ) → Option Sums
 sums_of costs group =
     if list_any (is_same group) (groups_of costs)
-    then Some (record { billed = sum_in (λ c. c.billed) costs group; effective = sum_in (λ c. c.effective) costs group })
+    then Some (record { billed = sum_in (λ c. c.billed) costs group; effective = sum_in (λ c. c.effective) costs group; amount = sum_in (λ c. c.amount) costs group })
     else None
 
 -- the sums of a group, where it has any
@@ -59,8 +59,8 @@ pub record AreSums (table : Table) (costs : List GroupCost) : Type 0 where
 
 -- sums with one more line
 abbrev pub added : GroupCost → Option Sums → Sums
-added cost None = record { billed = cost.billed; effective = cost.effective }
-added cost (Some sums) = record { billed = sums.billed +ℤ cost.billed; effective = sums.effective +ℤ cost.effective }
+added cost None = record { billed = cost.billed; effective = cost.effective; amount = cost.amount }
+added cost (Some sums) = record { billed = sums.billed +ℤ cost.billed; effective = sums.effective +ℤ cost.effective; amount = sums.amount +ℤ cost.amount }
 
 -- the line is counted in its group, and the other groups stay
 pub record AddsLine (old new : Table) (cost : GroupCost) : Type 0 where
@@ -68,4 +68,4 @@ pub record AddsLine (old new : Table) (cost : GroupCost) : Type 0 where
 
 -- what the lines of a group come to, by the sums that are kept of it
 abbrev pub kept_total : Vec (String Global) Global × Sums → GroupCost
-kept_total e = record { group = texts_of e.0; billed = e.1.billed; effective = e.1.effective }
+kept_total e = record { group = texts_of e.0; billed = e.1.billed; effective = e.1.effective; amount = e.1.amount }

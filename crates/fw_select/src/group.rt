@@ -1,5 +1,6 @@
 //! What the lines of a group come to.
 ghost use Rattle.std.specs.Prelude.{◌≡◌, map, string_bytes};
+ghost use Rattle.fw_select.specs.Table.{texts_of};
 
 use std::marker::Model;
 
@@ -9,6 +10,7 @@ pub struct Group {
     texts: Vec<String>,
     billed: i128,
     effective: i128,
+    amount: i128,
 }
 
 impl Drop for Group {
@@ -17,6 +19,7 @@ impl Drop for Group {
             texts: _,
             billed: _,
             effective: _,
+            amount: _,
         } = self;
     }
 }
@@ -27,23 +30,32 @@ impl Model for Group {
 
     ghost Value = { GroupCost };
 
-    ghost view = { λ g. record { group = map string_bytes g.texts.items; billed = g.billed; effective = g.effective } };
+    ghost view = { λ g. record { group = map string_bytes g.texts.items; billed = g.billed; effective = g.effective; amount = g.amount } };
 }
 
 impl Group {
     // The group with these texts and sums.
-    pub(crate) fn of_sums(texts: Vec<String>, billed: i128, effective: i128) -> Group
+    pub(crate) fn of_sums(texts: Vec<String>, billed: i128, effective: i128, amount: i128) -> Group
         ensures { result ≡ record {
           group = map string_bytes texts.items;
           billed = billed;
           effective = effective;
+          amount = amount;
         } }
     {
         Group {
             texts,
             billed,
             effective,
+            amount,
         }
+    }
+
+    // The texts of the group, as they are kept.
+    pub(crate) fn kept(&self) -> &Vec<String>
+        ensures { texts_of result.now ≡ self.now.group }
+    {
+        &self.texts
     }
 
     /// The texts of the group: one for each key, empty where the lines have none.
@@ -65,5 +77,12 @@ impl Group {
         ensures { result ≡ self.now.effective }
     {
         self.effective
+    }
+
+    /// The sum of an amount that stands beside the costs, in nanos: 0 where [`Selection::with_amounts`] put none there.
+    pub fn amount(&self) -> i128
+        ensures { result ≡ self.now.amount }
+    {
+        self.amount
     }
 }

@@ -1,16 +1,18 @@
 //! Selections over a snapshot.
-ghost use Rattle.std.specs.Prelude.{◌≡◌, ◌≤◌, IfErr, IfOk, MatchOption};
+ghost use Rattle.std.specs.Prelude.{◌≡◌, ◌≤◌, ◌++◌, IfErr, IfOk, MatchOption, map};
 ghost use Rattle.fw_query.specs.Limits.{most_total};
+ghost use Rattle.fw_select.specs.Groups.{AreTotals, as_amount};
 ghost use Rattle.fw_select.specs.Selections.{IsRefused, IsSelection, PassesAt, size_of};
 ghost use Rattle.fw_sums.specs.Limits.{IsRange};
 
 use crate::group::Group;
 use crate::name::group_name;
 use crate::selector::Selector;
+use crate::table::Table;
 use crate::walk::groups_on;
 use fw_query::{MOST_HOURS, QueryFault, Shown};
 use fw_snapshot::Snapshot;
-use std::alloc::Global;
+use std::alloc::{AllocError, Global};
 use std::marker::Model;
 
 // The most that the absolute effective costs may sum to, in nanos.
@@ -43,6 +45,19 @@ impl Selection {
         ensures { result.now ≡ self.now }
     {
         self.groups.as_slice()
+    }
+
+    /// The same groups with their costs, and those of amounts: each with its EffectiveCost among the amounts as the amount beside its costs. A group
+    /// of the amounts alone has no costs. The one error is that memory ran out.
+    pub fn with_amounts(&self, alloc: Global, amounts: &[Group]) -> Result<Selection, AllocError>
+        ensures { IfOk result (λ both. AreTotals (self.now ++ map as_amount amounts.now) both) }
+    {
+        let mut table = Table::new(alloc);
+        table.add_groups(self.groups.as_slice())?;
+        table.add_amounts(amounts)?;
+        Ok(Selection {
+            groups: table.into_groups()?,
+        })
     }
 }
 

@@ -1,8 +1,8 @@
 //! Sums by group, as they grow line by line.
-ghost use Rattle.std.specs.Prelude.{◌≡◌, ◌<◌, ◌++◌, ◌∷◌, [], ℕ, List, None, Some, IfOk, OnOk, map, string_bytes};
+ghost use Rattle.std.specs.Prelude.{◌≡◌, ◌<◌, ◌++◌, ◌∷◌, [], ℕ, List, None, Some, IfOk, OnOk, map, pos, string_bytes};
 ghost use Rattle.indexmap.specs.IndexMap.{IsReordered, IsUnique, index_map_len, keys};
 ghost use Rattle.std.specs.List.Sorted.{IsSorted};
-ghost use Rattle.fw_select.specs.Groups.{AreTotals, GroupCost};
+ghost use Rattle.fw_select.specs.Groups.{AreTotals, GroupCost, as_amount};
 ghost use Rattle.fw_select.specs.Table.{AddsLine, AreSums, IsInOrder, KeepsGroups, added, group_at, kept_total, sums_at, texts_of};
 
 use crate::group::Group;
@@ -15,16 +15,48 @@ use std::alloc::{AllocError, Global};
 pub(crate) struct Sums {
     billed: i128,
     effective: i128,
+    amount: i128,
 }
 
 impl Sums {
     // The costs of one line.
     fn of_line(billed: Nanos, effective: Nanos) -> Sums
-        ensures { result ≡ record { billed = billed; effective = effective } }
+        ensures { result ≡ record { billed = billed; effective = effective; amount = pos 0 } }
     {
         Sums {
             billed: i128::from(billed.count()),
             effective: i128::from(effective.count()),
+            amount: 0,
+        }
+    }
+
+    // The sums of a group.
+    fn of_group(group: &Group) -> Sums
+        ensures { result ≡ record {
+          billed = group.now.billed;
+          effective = group.now.effective;
+          amount = group.now.amount;
+        } }
+    {
+        Sums {
+            billed: group.billed(),
+            effective: group.effective(),
+            amount: group.amount(),
+        }
+    }
+
+    // The EffectiveCost of a group as an amount beside no costs.
+    fn of_amount(group: &Group) -> Sums
+        ensures { result ≡ record {
+          billed = pos 0;
+          effective = pos 0;
+          amount = group.now.effective;
+        } }
+    {
+        Sums {
+            billed: 0,
+            effective: 0,
+            amount: group.effective(),
         }
     }
 
@@ -34,14 +66,19 @@ impl Sums {
             → sums ≡ added (record {
               group = group;
               billed = other.billed;
-              effective =
-                  other.effective;
+              effective = other.effective;
+              amount = other.amount;
             }) (Some self)) }
     {
         let billed = self.billed.checked_add(other.billed);
         let effective = self.effective.checked_add(other.effective);
-        match (billed, effective) {
-            (Some(billed), Some(effective)) => Ok(Sums { billed, effective }),
+        let amount = self.amount.checked_add(other.amount);
+        match (billed, effective, amount) {
+            (Some(billed), Some(effective), Some(amount)) => Ok(Sums {
+                billed,
+                effective,
+                amount,
+            }),
             _ => Err(AllocError),
         }
     }
@@ -77,18 +114,55 @@ impl Table {
               group = texts_of group.now;
               billed = billed;
               effective = effective;
+              amount = pos 0;
             } ∷ [])) }
         ensures kept { OnOk result (KeepsGroups self.old self.new) }
         ensures place { IfOk result (λ place. group_at self.new place ≡ Some (texts_of group.now)) }
     {
-        let costs = Sums::of_line(billed, effective);
+        self.add_sums(group, Sums::of_line(billed, effective))
+    }
+
+    // Adds sums to those of the group with these texts, and returns its place.
+    fn add_sums(&mut self, group: &Vec<String>, added: Sums) -> Result<usize, AllocError>
+        ensures sums { OnOk result ((costs : List GroupCost) → AreSums self.old costs
+            → AreSums self.new (costs ++ record {
+              group = texts_of group.now;
+              billed = added.billed;
+              effective = added.effective;
+              amount = added.amount;
+            } ∷ [])) }
+        ensures kept { OnOk result (KeepsGroups self.old self.new) }
+        ensures place { IfOk result (λ place. group_at self.new place ≡ Some (texts_of group.now)) }
+    {
         match self.by_group.get_index_of(group) {
             Some(place) => {
-                self.put_at(place, costs)?;
+                self.put_at(place, added)?;
                 Ok(place)
             }
-            None => self.put_new(group, costs),
+            None => self.put_new(group, added),
         }
+    }
+
+    // Counts the sums of groups.
+    pub(crate) fn add_groups(&mut self, groups: &[Group]) -> Result<(), AllocError>
+        ensures { OnOk result ((before : List GroupCost) → AreSums self.old before
+            → AreSums self.new (before ++ groups.now)) }
+    {
+        for group in groups {
+            self.add_sums(group.kept(), Sums::of_group(group))?;
+        }
+        Ok(())
+    }
+
+    // Counts the EffectiveCosts of groups as amounts beside no costs.
+    pub(crate) fn add_amounts(&mut self, groups: &[Group]) -> Result<(), AllocError>
+        ensures { OnOk result ((before : List GroupCost) → AreSums self.old before
+            → AreSums self.new (before ++ map as_amount groups.now)) }
+    {
+        for group in groups {
+            self.add_sums(group.kept(), Sums::of_amount(group))?;
+        }
+        Ok(())
     }
 
     // Counts a line, in the group at a place.
@@ -105,6 +179,7 @@ impl Table {
               group = group;
               billed = billed;
               effective = effective;
+              amount = pos 0;
             } ∷ [])) }
         ensures kept { OnOk result (KeepsGroups self.old self.new) }
     {
@@ -120,6 +195,7 @@ impl Table {
               group = group;
               billed = added.billed;
               effective = added.effective;
+              amount = added.amount;
             })) }
         ensures kept { OnOk result (KeepsGroups self.old self.new) }
     {
@@ -135,6 +211,7 @@ impl Table {
           group = texts_of group.now;
           billed = added.billed;
           effective = added.effective;
+          amount = added.amount;
         })) }
         ensures kept { OnOk result (KeepsGroups self.old self.new) }
         ensures place { IfOk result (λ place. group_at self.new place ≡ Some (texts_of group.now)) }
@@ -171,7 +248,7 @@ fn kept_groups(
 {
     by_group
         .into_iter()
-        .map(|pair| Group::of_sums(pair.0, pair.1.billed, pair.1.effective))
+        .map(|pair| Group::of_sums(pair.0, pair.1.billed, pair.1.effective, pair.1.amount))
         .collect(alloc)
 }
 

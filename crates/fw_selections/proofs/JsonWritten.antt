@@ -1,5 +1,5 @@
 -- What the functions that write objects have written is the text of the objects.
-use Rattle.std.proofs.Common.{◌≡◌, ◌∙◌, ◌+◌, ◌<◌, ◌^◌, ℕ, Bool, List, [], ◌∷◌, ◌++◌, append-nil, append_assoc, length, take, map, refl, subst, sym, ap, ℤ}
+use Rattle.std.proofs.Common.{◌≡◌, ◌∙◌, ◌+◌, ◌<◌, ◌^◌, ℕ, Bool, List, [], ◌∷◌, ◌++◌, Option, Some, append-nil, append_assoc, length, take, map, refl, subst, sym, ap, ℤ}
 use Rattle.std.specs.Prelude.{codes, nat_abs}
 use Rattle.std.specs.List.{AllZip}
 use Rattle.std.proofs.lemmas.List.{length-map, map-append}
@@ -12,7 +12,7 @@ use Rattle.fw_calendar.specs.declared.steps.Step.{Step}
 use Rattle.fw_money.specs.Writing.{text_of}
 use Rattle.fw_select.specs.Groups.{GroupCost}
 use Rattle.fw_selections.specs.JsonMembers.{WritesPart, WritesParts, comma_at, later_members, listed, member_text, members_line, quoted}
-use Rattle.fw_selections.specs.JsonText.{AreHours, IsPart, Member, array_of, asked_members, costs_members, key_members, key_names, keyed_rows, object_of, row_object, selection_members, step_word}
+use Rattle.fw_selections.specs.JsonText.{AreHours, Columns, IsPart, Member, array_of, asked_members, columns_of, costs_members, key_members, key_names, keyed_rows, object_of, row_object, selection_members, step_word, sum_members}
 use Rattle.fw_selections.specs.Shown.{RowValue, costs_of}
 use Rattle.fw_selections.specs.Written.{kind_word}
 use Rattle.fw_selections.specs.declared.rows.Costs.{Costs}
@@ -28,6 +28,10 @@ use Rattle.fw_selections.proofs.PlainFacts.{amount_plain}
 costs_names : (codes "\"billed\":\"" ≡ quoted (codes "billed") ++ 58 ∷ (34 ∷ [])) × (codes "\",\"effective\":\"" ≡ 34 ∷ (44 ∷ (quoted (codes "effective") ++ 58 ∷ (34 ∷ []))))
 unfolding serde_json_on_literals
 costs_names = (refl, refl)
+
+sums_name : codes ",\"sums\":{" ≡ 44 ∷ (quoted (codes "sums") ++ 58 ∷ (123 ∷ []))
+unfolding serde_json_on_literals
+sums_name = refl
 
 hours_names : (codes "\"from\":" ≡ quoted (codes "from") ++ 58 ∷ []) × (codes ",\"to\":" ≡ 44 ∷ (quoted (codes "to") ++ 58 ∷ []))
 unfolding serde_json_on_literals
@@ -54,9 +58,12 @@ cut_names = (refl, refl)
 member_regroup : (old n v : List ℕ) → ((old ++ n) ++ 58 ∷ []) ++ v ≡ old ++ (n ++ 58 ∷ v)
 member_regroup old n v = simp append_assoc
 
-costs_regroup : (old qb b qe e : List ℕ) → ((((old ++ (qb ++ 58 ∷ (34 ∷ []))) ++ b) ++ (34 ∷ (44 ∷ (qe ++ 58 ∷ (34 ∷ []))))) ++ e) ++ 34 ∷ []
-    ≡ old ++ ((qb ++ 58 ∷ (34 ∷ (b ++ 34 ∷ []))) ++ ((44 ∷ (qe ++ 58 ∷ (34 ∷ (e ++ 34 ∷ [])))) ++ []))
-costs_regroup old qb b qe e = simp append_assoc
+costs_regroup : (old qb b qe e s : List ℕ) → (((((old ++ (qb ++ 58 ∷ (34 ∷ []))) ++ b) ++ (34 ∷ (44 ∷ (qe ++ 58 ∷ (34 ∷ []))))) ++ e) ++ 34 ∷ []) ++ s
+    ≡ old ++ ((qb ++ 58 ∷ (34 ∷ (b ++ 34 ∷ []))) ++ ((44 ∷ (qe ++ 58 ∷ (34 ∷ (e ++ 34 ∷ [])))) ++ s))
+costs_regroup old qb b qe e s = simp append_assoc
+
+sum_regroup : (old qs m : List ℕ) → ((old ++ (44 ∷ (qs ++ 58 ∷ (123 ∷ [])))) ++ m) ++ 125 ∷ [] ≡ old ++ ((44 ∷ (qs ++ 58 ∷ (123 ∷ (m ++ 125 ∷ [])))) ++ [])
+sum_regroup old qs m = simp append_assoc
 
 hours_regroup : (old qf f qt t : List ℕ) → (((old ++ (qf ++ 58 ∷ [])) ++ f) ++ (44 ∷ (qt ++ 58 ∷ []))) ++ t ≡ old ++ ((qf ++ 58 ∷ f) ++ ((44 ∷ (qt ++ 58 ∷ t)) ++ []))
 hours_regroup old qf f qt t = simp (append_assoc, append-nil)
@@ -91,16 +98,29 @@ member_written old n v name value a b = member_regroup old n v ∙ ap (λ t. old
 between : (text : List ℕ) (amount : ℤ) → text ≡ text_of amount → nat_abs amount < 10 ^ 64 → 34 ∷ (text ++ 34 ∷ []) ≡ quoted (text_of amount)
 between text amount is small = ap (λ t. 34 ∷ (t ++ 34 ∷ [])) is ∙ sym (amount_plain amount small)
 
-pub costs_written : (old b e : List ℕ) (costs : Costs) → b ≡ text_of costs.billed → e ≡ text_of costs.effective → nat_abs costs.billed < 10 ^ 64 → nat_abs costs.effective < 10 ^ 64
-    → ((((old ++ codes "\"billed\":\"") ++ b) ++ codes "\",\"effective\":\"") ++ e) ++ 34 ∷ [] ≡ old ++ members_line (costs_members costs)
-costs_written old b e costs is_billed is_effective small also =
+pub costs_written : (old b e : List ℕ) (tag : Option (List ℕ)) (costs : Costs) → b ≡ text_of costs.billed → e ≡ text_of costs.effective → nat_abs costs.billed < 10 ^ 64 → nat_abs costs.effective < 10 ^ 64
+    → (((((old ++ codes "\"billed\":\"") ++ b) ++ codes "\",\"effective\":\"") ++ e) ++ 34 ∷ []) ++ later_members (sum_members tag costs.amount) ≡ old ++ members_line (costs_members tag costs)
+costs_written old b e tag costs is_billed is_effective small also =
     let qb = quoted (codes "billed") in
     let qe = quoted (codes "effective") in
-    ap (λ n. ((((old ++ n) ++ b) ++ codes "\",\"effective\":\"") ++ e) ++ 34 ∷ []) costs_names.0
-    ∙ ap (λ n. ((((old ++ (qb ++ 58 ∷ (34 ∷ []))) ++ b) ++ n) ++ e) ++ 34 ∷ []) costs_names.1
-    ∙ costs_regroup old qb b qe e
-    ∙ ap (λ t. old ++ ((qb ++ 58 ∷ t) ++ ((44 ∷ (qe ++ 58 ∷ (34 ∷ (e ++ 34 ∷ [])))) ++ []))) (between b costs.billed is_billed small)
-    ∙ ap (λ t. old ++ ((qb ++ 58 ∷ quoted (text_of costs.billed)) ++ ((44 ∷ (qe ++ 58 ∷ t)) ++ []))) (between e costs.effective is_effective also)
+    let s = later_members (sum_members tag costs.amount) in
+    ap (λ n. (((((old ++ n) ++ b) ++ codes "\",\"effective\":\"") ++ e) ++ 34 ∷ []) ++ s) costs_names.0
+    ∙ ap (λ n. (((((old ++ (qb ++ 58 ∷ (34 ∷ []))) ++ b) ++ n) ++ e) ++ 34 ∷ []) ++ s) costs_names.1
+    ∙ costs_regroup old qb b qe e s
+    ∙ ap (λ t. old ++ ((qb ++ 58 ∷ t) ++ ((44 ∷ (qe ++ 58 ∷ (34 ∷ (e ++ 34 ∷ [])))) ++ s))) (between b costs.billed is_billed small)
+    ∙ ap (λ t. old ++ ((qb ++ 58 ∷ quoted (text_of costs.billed)) ++ ((44 ∷ (qe ++ 58 ∷ t)) ++ s))) (between e costs.effective is_effective also)
+
+-- the sum of a tag's amounts
+pub sum_written : (old tag amount : List ℕ) (sum : ℤ) → amount ≡ text_of sum
+    → ((old ++ codes ",\"sums\":{") ++ member_text (tag, json.string amount)) ++ 125 ∷ [] ≡ old ++ later_members (sum_members (Some tag) sum)
+sum_written old tag amount sum is =
+    let qs = quoted (codes "sums") in
+    let member : Member = (tag, json.string (text_of sum)) in
+    ap (λ a. ((old ++ codes ",\"sums\":{") ++ member_text (tag, json.string a)) ++ 125 ∷ []) is
+    ∙ ap (λ n. ((old ++ n) ++ member_text member) ++ 125 ∷ []) sums_name
+    ∙ sum_regroup old qs (member_text member)
+    ∙ ap (λ m. old ++ ((44 ∷ (qs ++ 58 ∷ (123 ∷ (m ++ 125 ∷ [])))) ++ [])) (sym (append-nil (member_text member)))
+    ∙ ap (λ o. old ++ ((44 ∷ (qs ++ 58 ∷ o)) ++ [])) (sym (object_text (member ∷ [])))
 
 pub hours_written : (old f t from to : List ℕ) → f ≡ quoted from → t ≡ quoted to
     → (((old ++ codes "\"from\":") ++ f) ++ codes ",\"to\":") ++ t ≡ old ++ members_line ((codes "from", json.string from) ∷ ((codes "to", json.string to) ∷ []))
@@ -142,40 +162,40 @@ head_written old c keys currency hours ms is are =
     ∙ ap (λ t. old ++ (123 ∷ ((members_line (asked ∷ (money ∷ [])) ++ t) ++ 44 ∷ []))) (sym (hours_later hours ms are))
     ∙ ap (λ t. old ++ (123 ∷ (t ++ 44 ∷ []))) (sym (lines_later asked (money ∷ []) ms))
 
-pub selection_written : (old : List ℕ) (names : List (List ℕ)) (chosen : GroupCost → Bool) (groups : List GroupCost)
-    → ((((old ++ codes "\"groups\":[") ++ listed (map (λ row. compact_text (row_object names row)) (keyed_rows names chosen groups))) ++ codes "],\"total\":{") ++ members_line (costs_members (costs_of groups))) ++ 125 ∷ []
-    ≡ old ++ members_line (selection_members names chosen groups)
-selection_written old names chosen groups =
+pub selection_written : (old : List ℕ) (columns : Columns) (chosen : GroupCost → Bool) (groups : List GroupCost)
+    → ((((old ++ codes "\"groups\":[") ++ listed (map (λ row. compact_text (row_object columns row)) (keyed_rows columns.keys chosen groups))) ++ codes "],\"total\":{") ++ members_line (costs_members columns.tag (costs_of groups))) ++ 125 ∷ []
+    ≡ old ++ members_line (selection_members columns chosen groups)
+selection_written old columns chosen groups =
     let qg = quoted (codes "groups") in
     let qt = quoted (codes "total") in
-    let rows = keyed_rows names chosen groups in
-    let g = listed (map (λ row. compact_text (row_object names row)) rows) in
-    let x = members_line (costs_members (costs_of groups)) in
-    let objects = map (row_object names) rows in
-    let array : 91 ∷ (g ++ 93 ∷ []) ≡ compact_text (array_of objects) = ap (λ ts. 91 ∷ (listed ts ++ 93 ∷ [])) (sym (maps_are compact_text (row_object names) rows)) ∙ sym (array_text objects) in
+    let rows = keyed_rows columns.keys chosen groups in
+    let g = listed (map (λ row. compact_text (row_object columns row)) rows) in
+    let x = members_line (costs_members columns.tag (costs_of groups)) in
+    let objects = map (row_object columns) rows in
+    let array : 91 ∷ (g ++ 93 ∷ []) ≡ compact_text (array_of objects) = ap (λ ts. 91 ∷ (listed ts ++ 93 ∷ [])) (sym (maps_are compact_text (row_object columns) rows)) ∙ sym (array_text objects) in
     ap (λ t. ((((old ++ t) ++ g) ++ codes "],\"total\":{") ++ x) ++ 125 ∷ []) selection_names.0
     ∙ ap (λ t. ((((old ++ (qg ++ 58 ∷ (91 ∷ []))) ++ g) ++ t) ++ x) ++ 125 ∷ []) selection_names.1
     ∙ selection_regroup old qg g qt x
     ∙ ap (λ t. old ++ ((qg ++ 58 ∷ t) ++ ((44 ∷ (qt ++ 58 ∷ (123 ∷ (x ++ 125 ∷ [])))) ++ []))) array
-    ∙ ap (λ t. old ++ ((qg ++ 58 ∷ compact_text (array_of objects)) ++ ((44 ∷ (qt ++ 58 ∷ t)) ++ []))) (sym (object_text (costs_members (costs_of groups))))
+    ∙ ap (λ t. old ++ ((qg ++ 58 ∷ compact_text (array_of objects)) ++ ((44 ∷ (qt ++ 58 ∷ t)) ++ []))) (sym (object_text (costs_members columns.tag (costs_of groups))))
 
-pub row_written : (old d : List ℕ) (names : List (List ℕ)) (row : RowValue) → d ≡ kind_word row.texts
-    → ((((((old ++ codes "{\"keys\":{") ++ members_line (key_members names row.texts)) ++ codes "},\"kind\":\"") ++ d) ++ codes "\",") ++ members_line (costs_members row.costs)) ++ 125 ∷ []
-    ≡ old ++ compact_text (row_object names row)
-row_written old d names row is =
+pub row_written : (old d : List ℕ) (columns : Columns) (row : RowValue) → d ≡ kind_word row.texts
+    → ((((((old ++ codes "{\"keys\":{") ++ members_line (key_members columns.keys row.texts)) ++ codes "},\"kind\":\"") ++ d) ++ codes "\",") ++ members_line (costs_members columns.tag row.costs)) ++ 125 ∷ []
+    ≡ old ++ compact_text (row_object columns row)
+row_written old d columns row is =
     let qk = quoted (codes "keys") in
     let qd = quoted (codes "kind") in
-    let k = members_line (key_members names row.texts) in
-    let x = members_line (costs_members row.costs) in
+    let k = members_line (key_members columns.keys row.texts) in
+    let x = members_line (costs_members columns.tag row.costs) in
     let kind : 34 ∷ (d ++ 34 ∷ []) ≡ quoted (kind_word row.texts) = ap (λ t. 34 ∷ (t ++ 34 ∷ [])) is ∙ sym (kind_quoted row.texts) in
-    let keys : Member = (codes "keys", object_of (key_members names row.texts)) in
+    let keys : Member = (codes "keys", object_of (key_members columns.keys row.texts)) in
     let word : Member = (codes "kind", json.string (kind_word row.texts)) in
     ap (λ t. ((((((old ++ t) ++ k) ++ codes "},\"kind\":\"") ++ d) ++ codes "\",") ++ x) ++ 125 ∷ []) row_names.0
     ∙ ap (λ t. ((((((old ++ (123 ∷ (qk ++ 58 ∷ (123 ∷ [])))) ++ k) ++ t) ++ d) ++ codes "\",") ++ x) ++ 125 ∷ []) row_names.1
     ∙ row_regroup old qk k qd d x
-    ∙ ap (λ t. old ++ (123 ∷ (((qk ++ 58 ∷ t) ++ ((44 ∷ (qd ++ 58 ∷ (34 ∷ (d ++ 34 ∷ [])))) ++ (44 ∷ x))) ++ 125 ∷ []))) (sym (object_text (key_members names row.texts)))
+    ∙ ap (λ t. old ++ (123 ∷ (((qk ++ 58 ∷ t) ++ ((44 ∷ (qd ++ 58 ∷ (34 ∷ (d ++ 34 ∷ [])))) ++ (44 ∷ x))) ++ 125 ∷ []))) (sym (object_text (key_members columns.keys row.texts)))
     ∙ ap (λ t. old ++ (123 ∷ ((member_text keys ++ ((44 ∷ (qd ++ 58 ∷ t)) ++ (44 ∷ x))) ++ 125 ∷ []))) kind
-    ∙ ap (λ t. old ++ t) (sym (object_text (keys ∷ (word ∷ costs_members row.costs))))
+    ∙ ap (λ t. old ++ t) (sym (object_text (keys ∷ (word ∷ costs_members columns.tag row.costs))))
 
 object_written : (old : List ℕ) (hours : Period) (ms : List Member) (n : Member) (ns : List Member) → AreHours hours ms
     → ((((old ++ 123 ∷ []) ++ members_line ms) ++ 44 ∷ []) ++ members_line (n ∷ ns)) ++ 125 ∷ [] ≡ old ++ compact_text (object_of (ms ++ n ∷ ns))
@@ -184,32 +204,32 @@ object_written old hours ms n ns are =
     ∙ ap (λ t. old ++ (123 ∷ (t ++ 125 ∷ []))) (sym (hours_then hours ms n ns are))
     ∙ ap (λ t. old ++ t) (sym (object_text (ms ++ n ∷ ns)))
 
-groups_member : List (List ℕ) → (GroupCost → Bool) → List GroupCost → Member
-groups_member names chosen groups = (codes "groups", array_of (map (row_object names) (keyed_rows names chosen groups)))
+groups_member : Columns → (GroupCost → Bool) → List GroupCost → Member
+groups_member columns chosen groups = (codes "groups", array_of (map (row_object columns) (keyed_rows columns.keys chosen groups)))
 
-total_member : List GroupCost → Member
-total_member groups = (codes "total", object_of (costs_members (costs_of groups)))
+total_member : Columns → List GroupCost → Member
+total_member columns groups = (codes "total", object_of (costs_members columns.tag (costs_of groups)))
 
-pub part_written : (old : List ℕ) (hours : Period) (ms : List Member) (names : List (List ℕ)) (chosen : GroupCost → Bool) (groups : List GroupCost) → AreHours hours ms
-    → ((((old ++ 123 ∷ []) ++ members_line ms) ++ 44 ∷ []) ++ members_line (selection_members names chosen groups)) ++ 125 ∷ [] ≡ old ++ compact_text (object_of (ms ++ selection_members names chosen groups))
+pub part_written : (old : List ℕ) (hours : Period) (ms : List Member) (columns : Columns) (chosen : GroupCost → Bool) (groups : List GroupCost) → AreHours hours ms
+    → ((((old ++ 123 ∷ []) ++ members_line ms) ++ 44 ∷ []) ++ members_line (selection_members columns chosen groups)) ++ 125 ∷ [] ≡ old ++ compact_text (object_of (ms ++ selection_members columns chosen groups))
 unfolding groups_member total_member
-part_written old hours ms names chosen groups are = object_written old hours ms (groups_member names chosen groups) (total_member groups ∷ []) are
+part_written old hours ms columns chosen groups are = object_written old hours ms (groups_member columns chosen groups) (total_member columns groups ∷ []) are
 
-pub selections_later : (names : List (List ℕ)) (chosen : GroupCost → Bool) (groups : List GroupCost) (periods : List Member)
-    → members_line (selection_members names chosen groups ++ periods) ≡ members_line (selection_members names chosen groups) ++ later_members periods
+pub selections_later : (columns : Columns) (chosen : GroupCost → Bool) (groups : List GroupCost) (periods : List Member)
+    → members_line (selection_members columns chosen groups ++ periods) ≡ members_line (selection_members columns chosen groups) ++ later_members periods
 unfolding groups_member total_member
-selections_later names chosen groups periods = lines_later (groups_member names chosen groups) (total_member groups ∷ []) periods
+selections_later columns chosen groups periods = lines_later (groups_member columns chosen groups) (total_member columns groups ∷ []) periods
 
 -- one period more
-pub parts_more : (start old comma new : List ℕ) (names : List (List ℕ)) (chosen : GroupCost → Bool) (parts : List SelectedPart) (i : ℕ) (part : SelectedPart) → take (i + 1) parts ≡ take i parts ++ part ∷ []
-    → (before : WritesParts start old names chosen (take i parts)) → comma ≡ old ++ comma_at i → WritesPart comma new names chosen part → WritesParts start new names chosen (take (i + 1) parts)
-parts_more start old comma new names chosen parts i part one before then next =
+pub parts_more : (start old comma new : List ℕ) (columns : Columns) (chosen : GroupCost → Bool) (parts : List SelectedPart) (i : ℕ) (part : SelectedPart) → take (i + 1) parts ≡ take i parts ++ part ∷ []
+    → (before : WritesParts start old columns chosen (take i parts)) → comma ≡ old ++ comma_at i → WritesPart comma new columns chosen part → WritesParts start new columns chosen (take (i + 1) parts)
+parts_more start old comma new columns chosen parts i part one before then next =
     let texts = map compact_text before.objects in
-    let long : length texts ≡ i = length-map before.objects compact_text ∙ AllZip-long (IsPart names chosen) (take i parts) before.objects before.each ∙ long_take parts i part one in
+    let long : length texts ≡ i = length-map before.objects compact_text ∙ AllZip-long (IsPart columns chosen) (take i parts) before.objects before.each ∙ long_take parts i part one in
     record {
       objects = before.objects ++ next.object ∷ [];
-      each = subst (λ ps. AllZip (IsPart names chosen) ps (before.objects ++ next.object ∷ [])) (sym one)
-          (zip_append (IsPart names chosen) (take i parts) (part ∷ []) before.objects (next.object ∷ []) before.each (next.is_part, tt));
+      each = subst (λ ps. AllZip (IsPart columns chosen) ps (before.objects ++ next.object ∷ [])) (sym one)
+          (zip_append (IsPart columns chosen) (take i parts) (part ∷ []) before.objects (next.object ∷ []) before.each (next.is_part, tt));
       wrote = listed_step texts i (compact_text next.object) start old comma new long before.wrote then next.wrote
           ∙ ap (λ ts. start ++ listed ts) (sym (map-append compact_text before.objects (next.object ∷ [])));
     }
@@ -237,8 +257,8 @@ whole_written asked money hours n ns =
     ∙ ap (λ t. t ++ 10 ∷ []) (sym (object_text (asked ∷ (money ∷ (hours ++ n ∷ ns)))))
 
 pub text_written : (sheet : Sheet) (chosen : GroupCost → Bool) (groups : List GroupCost) (hours periods : List Member)
-    → ((123 ∷ (members_line (asked_members sheet ++ hours) ++ 44 ∷ [])) ++ members_line (selection_members (key_names sheet) chosen groups ++ periods)) ++ codes "}\n"
-    ≡ compact_text (object_of (asked_members sheet ++ (hours ++ (selection_members (key_names sheet) chosen groups ++ periods)))) ++ 10 ∷ []
+    → ((123 ∷ (members_line (asked_members sheet ++ hours) ++ 44 ∷ [])) ++ members_line (selection_members (columns_of sheet) chosen groups ++ periods)) ++ codes "}\n"
+    ≡ compact_text (object_of (asked_members sheet ++ (hours ++ (selection_members (columns_of sheet) chosen groups ++ periods)))) ++ 10 ∷ []
 unfolding groups_member total_member
 text_written sheet chosen groups hours periods =
-    whole_written (codes "keys", array_of (map json.string (key_names sheet))) (codes "currency", json.string sheet.currency.now) hours (groups_member (key_names sheet) chosen groups) (total_member groups ∷ periods)
+    whole_written (codes "keys", array_of (map json.string (key_names sheet))) (codes "currency", json.string sheet.currency.now) hours (groups_member (columns_of sheet) chosen groups) (total_member (columns_of sheet) groups ∷ periods)

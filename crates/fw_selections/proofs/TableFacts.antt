@@ -12,7 +12,6 @@ use Rattle.fw_selections.specs.TableText.{ArePart, ArePeriod, IsRow, LineValue, 
 use Rattle.fw_selections.specs.declared.parts.SelectedPart.{SelectedPart}
 use Rattle.fw_selections.specs.declared.rows.Costs.{Costs}
 use Rattle.fw_selections.specs.declared.rows.Row.{Row}
-use Rattle.fw_selections.specs.declared.sheet.KeyName.{KeyName}
 use Rattle.fw_selections.specs.declared.sheet.Sheet.{Sheet}
 use Rattle.fw_selections.proofs.RowFacts.{values_more, zip_append}
 use Rattle.fw_table.specs.declared.layout.Line.{Line}
@@ -25,16 +24,16 @@ line_more old new line is = ap (map line_value) is ∙ map-append line_value old
 pub text_more : (old new : List (String Global)) (text : String Global) (bytes : List ℕ) → new ≡ old ++ text ∷ [] → string_bytes text ≡ bytes → map string_bytes new ≡ map string_bytes old ++ bytes ∷ []
 text_more old new text bytes is same = ap (map string_bytes) is ∙ map-append string_bytes old (text ∷ []) ∙ ap (λ b. map string_bytes old ++ b ∷ []) same
 
-pub no_rows : (old : List LineValue) (keys : List KeyName) (period : List (List ℕ)) (all : Costs) → AddsRows old old keys period all []
-no_rows old keys period all = record { lines = []; each = tt; added = sym (append-nil old) }
+pub no_rows : (old : List LineValue) (sheet : Sheet) (period : List (List ℕ)) (all : Costs) → AddsRows old old sheet period all []
+no_rows old sheet period all = record { lines = []; each = tt; added = sym (append-nil old) }
 
-pub rows_more : (start old new : List LineValue) (keys : List KeyName) (period : List (List ℕ)) (all : Costs) (rows : List Row) (i : ℕ) (row : Row) (line : LineValue) → i < length rows → row ≡ get_or rows i row
-    → AddsRows start old keys period all (map row_value (take i rows)) → IsRow keys period all (row_value row) line → new ≡ old ++ line ∷ []
-    → AddsRows start new keys period all (map row_value (take (i + 1) rows))
-rows_more start old new keys period all rows i row line below is before one more = record {
+pub rows_more : (start old new : List LineValue) (sheet : Sheet) (period : List (List ℕ)) (all : Costs) (rows : List Row) (i : ℕ) (row : Row) (line : LineValue) → i < length rows → row ≡ get_or rows i row
+    → AddsRows start old sheet period all (map row_value (take i rows)) → IsRow sheet period all (row_value row) line → new ≡ old ++ line ∷ []
+    → AddsRows start new sheet period all (map row_value (take (i + 1) rows))
+rows_more start old new sheet period all rows i row line below is before one more = record {
   lines = before.lines ++ line ∷ [];
-  each = subst (λ rs. AllZip (IsRow keys period all) rs (before.lines ++ line ∷ [])) (sym (values_more rows i row below is))
-      (zip_append (IsRow keys period all) (map row_value (take i rows)) (row_value row ∷ []) before.lines (line ∷ []) before.each (one, tt));
+  each = subst (λ rs. AllZip (IsRow sheet period all) rs (before.lines ++ line ∷ [])) (sym (values_more rows i row below is))
+      (zip_append (IsRow sheet period all) (map row_value (take i rows)) (row_value row ∷ []) before.lines (line ∷ []) before.each (one, tt));
   added = more ∙ ap (λ t. t ++ line ∷ []) before.added ∙ append_assoc start before.lines (line ∷ []);
 }
 
@@ -77,18 +76,18 @@ three_texts old a b c = simp append_assoc
 -- the lines of the rows of a part
 pub part_of : (old new : List LineValue) (sheet : Sheet) (chosen : GroupCost → Bool) (part : SelectedPart) (period texts : List (List ℕ)) (all : Costs) (rows : List RowValue)
     → ArePeriod sheet.step part.period period → texts ≡ period → all ≡ costs_of part.selection → rows ≡ rows_in sheet.keys.now chosen part.selection
-    → AddsRows old new sheet.keys.now texts all rows → AddsPart old new sheet chosen part
+    → AddsRows old new sheet texts all rows → AddsPart old new sheet chosen part
 part_of old new sheet chosen part period texts all rows are same costs are_rows added =
     let keys = sheet.keys.now in
-    let one : AllZip (IsRow keys texts all) (rows_in keys chosen part.selection) added.lines = subst (λ rs. AllZip (IsRow keys texts all) rs added.lines) are_rows added.each in
-    let two : AllZip (IsRow keys texts (costs_of part.selection)) (rows_in keys chosen part.selection) added.lines =
-    subst (λ a. AllZip (IsRow keys texts a) (rows_in keys chosen part.selection) added.lines) costs one in
+    let one : AllZip (IsRow sheet texts all) (rows_in keys chosen part.selection) added.lines = subst (λ rs. AllZip (IsRow sheet texts all) rs added.lines) are_rows added.each in
+    let two : AllZip (IsRow sheet texts (costs_of part.selection)) (rows_in keys chosen part.selection) added.lines =
+    subst (λ a. AllZip (IsRow sheet texts a) (rows_in keys chosen part.selection) added.lines) costs one in
     record {
       lines = added.lines;
       are_part = record {
         period = period;
         are_period = are;
-        each = subst (λ ts. AllZip (IsRow keys ts (costs_of part.selection)) (rows_in keys chosen part.selection) added.lines) same two;
+        each = subst (λ ts. AllZip (IsRow sheet ts (costs_of part.selection)) (rows_in keys chosen part.selection) added.lines) same two;
       };
       added = added.added;
     }

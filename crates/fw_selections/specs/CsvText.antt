@@ -1,5 +1,5 @@
 -- The text of selections as CSV.
-use Rattle.std.specs.Prelude.{◌≡◌, ◌||◌, ℕ, Bool, List, [], ◌∷◌, ◌++◌, length, map, codes, if◌then◌else◌}
+use Rattle.std.specs.Prelude.{◌≡◌, ◌||◌, ℕ, ℤ, Bool, List, [], ◌∷◌, ◌++◌, length, map, codes, Option, Some, None, if◌then◌else◌}
 use Rattle.std.specs.List.{AllZip, concat, flat_map}
 use Rattle.std.specs.Option.{is_some}
 use Rattle.fw_calendar.specs.Shown.{IsHourText}
@@ -8,7 +8,7 @@ use Rattle.fw_money.specs.Writing.{text_of}
 use Rattle.fw_query.specs.Texts.{record_line}
 use Rattle.fw_select.specs.Groups.{GroupCost}
 use Rattle.fw_selections.specs.Shown.{RowValue}
-use Rattle.fw_selections.specs.Written.{AreChosen, kind_word, parts_by, rows_in, texts_under}
+use Rattle.fw_selections.specs.Written.{AreChosen, kind_word, parts_by, rows_in, sum_name, texts_under}
 use Rattle.fw_selections.specs.declared.parts.SelectedPart.{SelectedPart}
 use Rattle.fw_selections.specs.declared.parts.Selections.{Selections}
 use Rattle.fw_selections.specs.declared.sheet.Sheet.{Sheet}
@@ -21,17 +21,27 @@ has_hours sheet = is_some sheet.step || is_some sheet.top
 abbrev pub in_front : Bool → List ℕ → List ℕ → List ℕ → List (List ℕ)
 in_front has from to kind = if has then from ∷ to ∷ kind ∷ [] else []
 
--- the names of the columns: those in front, the names of the keys in their order, and those of the costs
+-- the field of a sum, where there is one
+abbrev pub in_sum : Option (List ℕ) → List (List ℕ)
+in_sum None = []
+in_sum (Some text) = text ∷ []
+
+-- the text of an amount, where a tag has amounts
+abbrev pub sum_text : Option (List ℕ) → ℤ → Option (List ℕ)
+sum_text None amount = None
+sum_text (Some tag) amount = Some (text_of amount)
+
+-- the names of the columns: those in front, the names of the keys in their order, those of the costs, and the tag whose amounts stand beside them
 unfoldable pub header : Sheet → List (List ℕ)
 header sheet =
     in_front (has_hours sheet) (codes "From") (codes "To") (codes "Kind")
-    ++ (map (λ key. key.name.now) sheet.keys.now ++ codes "BilledCost" ∷ (codes "EffectiveCost" ∷ []))
+    ++ (map (λ key. key.name.now) sheet.keys.now ++ codes "BilledCost" ∷ (codes "EffectiveCost" ∷ in_sum (sum_name sheet)))
 
--- the fields of a row, in the order of the columns: its hours as the texts `from` and `to`, its kind, its texts under the keys, and its costs
+-- the fields of a row, in the order of the columns: its hours as the texts `from` and `to`, its kind, its texts under the keys, its costs, and its amount
 unfoldable pub fields_of : Sheet → List ℕ → List ℕ → RowValue → List (List ℕ)
 fields_of sheet from to row =
     in_front (has_hours sheet) from to (kind_word row.texts)
-    ++ (texts_under (length sheet.keys.now) row.texts ++ text_of row.costs.billed ∷ (text_of row.costs.effective ∷ []))
+    ++ (texts_under (length sheet.keys.now) row.texts ++ text_of row.costs.billed ∷ (text_of row.costs.effective ∷ in_sum (sum_text (sum_name sheet) row.costs.amount)))
 
 -- a row beside its hours
 pub record PlacedRow : Type 0 where

@@ -6,7 +6,7 @@ use Rattle.serde_json.specs.Written.{compact_text}
 use Rattle.fw_calendar.specs.declared.steps.Period.{Period}
 use Rattle.fw_calendar.specs.declared.steps.Step.{Step}
 use Rattle.fw_select.specs.Groups.{GroupCost}
-use Rattle.fw_selections.specs.JsonText.{AreHours, ArePeriods, IsPart, Member, asked_members, key_names, selection_members}
+use Rattle.fw_selections.specs.JsonText.{AreHours, ArePeriods, Columns, IsPart, Member, asked_members, columns_of, selection_members}
 use Rattle.fw_selections.specs.Written.{AreChosen}
 use Rattle.fw_selections.specs.declared.parts.SelectedPart.{SelectedPart}
 use Rattle.fw_selections.specs.declared.parts.Selections.{Selections}
@@ -54,28 +54,28 @@ pub record WritesHead (old new : List ℕ) (sheet : Sheet) : Type 0 where
   pub wrote : new ≡ old ++ (123 ∷ (members_line (asked_members sheet ++ hours) ++ 44 ∷ []))
 
 -- after the text that was written the object of a period
-pub record WritesPart (old new : List ℕ) (names : List (List ℕ)) (chosen : GroupCost → Bool) (part : SelectedPart) : Type 0 where
+pub record WritesPart (old new : List ℕ) (columns : Columns) (chosen : GroupCost → Bool) (part : SelectedPart) : Type 0 where
   pub object : Data
-  pub is_part : IsPart names chosen part object
+  pub is_part : IsPart columns chosen part object
   pub wrote : new ≡ old ++ compact_text object
 
 -- after the text that was written the objects of periods
-pub record WritesParts (old new : List ℕ) (names : List (List ℕ)) (chosen : GroupCost → Bool) (parts : List SelectedPart) : Type 0 where
+pub record WritesParts (old new : List ℕ) (columns : Columns) (chosen : GroupCost → Bool) (parts : List SelectedPart) : Type 0 where
   pub objects : List Data
-  pub each : AllZip (IsPart names chosen) parts objects
+  pub each : AllZip (IsPart columns chosen) parts objects
   pub wrote : new ≡ old ++ listed (map compact_text objects)
 
 -- after the text that was written the members of the periods, each with a comma in front
-pub record WritesPeriods (old new : List ℕ) (names : List (List ℕ)) (chosen : GroupCost → Bool) (step : Option Step) (parts : List SelectedPart) : Type 0 where
+pub record WritesPeriods (old new : List ℕ) (columns : Columns) (chosen : GroupCost → Bool) (step : Option Step) (parts : List SelectedPart) : Type 0 where
   pub members : List Member
-  pub are_periods : ArePeriods names chosen step parts members
+  pub are_periods : ArePeriods columns chosen step parts members
   pub wrote : new ≡ old ++ later_members members
 
 -- after the text that was written the members of selections, and of their periods
 pub record WritesAll (old new : List ℕ) (selections : Selections) (sheet : Sheet) (chosen : GroupCost → Bool) : Type 0 where
   pub periods : List Member
-  pub are_periods : ArePeriods (key_names sheet) chosen sheet.step selections.parts.items periods
-  pub wrote : new ≡ old ++ members_line (selection_members (key_names sheet) chosen selections.whole ++ periods)
+  pub are_periods : ArePeriods (columns_of sheet) chosen sheet.step selections.parts.items periods
+  pub wrote : new ≡ old ++ members_line (selection_members (columns_of sheet) chosen selections.whole ++ periods)
 
 -- the same, where the groups are those that the sheet asks for
 pub record WritesSelections (old new : List ℕ) (selections : Selections) (sheet : Sheet) : Type 0 where

@@ -11,18 +11,18 @@ use Rattle.fw_selections.specs.declared.rows.Shown.{Shown}
 
 -- the costs of a group
 abbrev pub cost_of : GroupCost → Costs
-cost_of group = record { billed = group.billed; effective = group.effective }
+cost_of group = record { billed = group.billed; effective = group.effective; amount = group.amount }
 
 -- costs and others
 abbrev pub with : Costs → Costs → Costs
-with a b = record { billed = a.billed +ℤ b.billed; effective = a.effective +ℤ b.effective }
+with a b = record { billed = a.billed +ℤ b.billed; effective = a.effective +ℤ b.effective; amount = a.amount +ℤ b.amount }
 
 abbrev pub total : List ℤ → ℤ
 total amounts = fold ◌+ℤ◌ (pos 0) amounts
 
 -- what groups come to together
 abbrev pub costs_of : List GroupCost → Costs
-costs_of groups = record { billed = total (map (λ g. g.billed) groups); effective = total (map (λ g. g.effective) groups) }
+costs_of groups = record { billed = total (map (λ g. g.billed) groups); effective = total (map (λ g. g.effective) groups); amount = total (map (λ g. g.amount) groups) }
 
 -- a group with the larger EffectiveCost comes first
 abbrev pub comes_first : Bor GroupCost → Bor GroupCost → Bool

@@ -1,5 +1,5 @@
 -- What is written of selections: which rows, and what a row has under its keys.
-use Rattle.std.specs.Prelude.{◌≡◌, not, ℕ, true, Bool, List, [], ◌∷◌, ◌++◌, filter, map, codes, Option, Some, None, slice_get, unwrap_or}
+use Rattle.std.specs.Prelude.{◌≡◌, not, ℕ, true, Bool, List, [], ◌∷◌, ◌++◌, filter, map, codes, Option, Some, None, option_copied, slice_get, unwrap_or}
 use Rattle.std.specs.List.{list_any, range_with_len}
 use Rattle.std.specs.Borrow.{Bor}
 use Rattle.fw_calendar.specs.declared.steps.Period.{Period}
@@ -9,6 +9,7 @@ use Rattle.fw_selections.specs.Shown.{AreLargest, RowValue, costs_of, others_row
 use Rattle.fw_selections.specs.declared.parts.SelectedPart.{SelectedPart}
 use Rattle.fw_selections.specs.declared.parts.Selections.{Selections}
 use Rattle.fw_selections.specs.declared.sheet.KeyName.{KeyName}
+use Rattle.fw_selections.specs.declared.sheet.Sheet.{Sheet}
 
 -- which groups have a row of their own: all of them, or those that are the largest of the whole range
 abbrev pub AreChosen : Option ℕ → List GroupCost → (GroupCost → Bool) → Type 0
@@ -34,6 +35,10 @@ rows_in (key ∷ keys) chosen groups = shown_rows chosen groups
 abbrev pub parts_by : Option Step → Period → Selections → List SelectedPart
 parts_by None hours selections = (record { period = hours; selection = selections.whole }) ∷ []
 parts_by (Some step) hours selections = selections.parts.items
+
+-- the tag whose amounts stand beside the costs, where one's do
+abbrev pub sum_name : Sheet → Option (List ℕ)
+sum_name sheet = option_copied sheet.sum
 
 -- what stands for the groups that have no row of their own
 abbrev pub others_text : List ℕ

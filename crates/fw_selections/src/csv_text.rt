@@ -1,11 +1,11 @@
 //! Selections as CSV.
-ghost use Rattle.std.specs.Prelude.{◌≡◌, ◌++◌, ◌∷◌, [], IfOk, List, OnOk, map, ℕ};
+ghost use Rattle.std.specs.Prelude.{◌≡◌, ◌++◌, ◌∷◌, [], IfOk, List, OnOk, map, option_copied, option_map, string_bytes, ℕ};
 ghost use Rattle.fw_query.specs.Texts.{record_line};
 ghost use Rattle.fw_query.specs.Writers.{HasWritten};
-ghost use Rattle.fw_selections.specs.CsvText.{IsCsvText, has_hours, header, in_front, placed, placed_rows};
+ghost use Rattle.fw_selections.specs.CsvText.{IsCsvText, has_hours, header, in_front, in_sum, placed, placed_rows, sum_text};
 ghost use Rattle.fw_selections.specs.Shown.{is_chosen, row_value};
 ghost use Rattle.fw_selections.specs.Writing.{WritesRecords, WritesShown};
-ghost use Rattle.fw_selections.specs.Written.{kind_word, parts_by, rows_in, text_at, texts_under};
+ghost use Rattle.fw_selections.specs.Written.{kind_word, parts_by, rows_in, sum_name, text_at, texts_under};
 
 use crate::parts::{SelectedPart, Selections};
 use crate::rows::{Row, Shown, largest, rows_under};
@@ -61,6 +61,7 @@ fn names_of<'n>(alloc: Global, sheet: &Sheet<'_, 'n, '_>) -> Result<Vec<&'n [u8]
     let mut names = front(alloc, has_hours(sheet), "From", "To", "Kind")?;
     push_names(&mut names, sheet.keys)?;
     push_costs(&mut names, "BilledCost", "EffectiveCost")?;
+    push_sum(&mut names, sheet.sum)?;
     Ok(names)
 }
 
@@ -107,6 +108,42 @@ fn push_costs<'f>(
     fields.push(billed.as_bytes())?;
     fields.push(effective.as_bytes())?;
     Ok(())
+}
+
+// Adds the field of a sum, where there is one.
+fn push_sum<'f>(fields: &mut Vec<&'f [u8]>, sum: Option<&'f str>) -> Result<(), AllocError>
+    ensures { OnOk result (map (λ f. f.now) fields.new.items
+        ≡ map (λ f. f.now) fields.old.items ++ in_sum (option_copied sum.entry)) }
+{
+    if let Some(sum) = sum {
+        fields.push(sum.as_bytes())?;
+    }
+    Ok(())
+}
+
+// The text of the amount of a row, where a tag has amounts.
+fn amount_text(
+    alloc: Global,
+    sheet: &Sheet<'_, '_, '_>,
+    row: &Row<'_>,
+) -> Result<Option<String>, AllocError>
+    ensures { IfOk result (λ text. option_map string_bytes text
+        ≡ sum_text (sum_name sheet.now) (row_value row.now).costs.amount) }
+{
+    match sheet.sum {
+        Some(_) => Ok(Some(fw_money::text(alloc, row.costs.amount)?)),
+        None => Ok(None),
+    }
+}
+
+// A text that may be there, lent.
+fn lent(text: &Option<String>) -> Option<&str>
+    ensures { option_copied result ≡ option_map string_bytes text.now }
+{
+    match text {
+        Some(text) => Some(text.as_str()),
+        None => None,
+    }
 }
 
 // Writes the records of all groups, or of the largest.
@@ -214,10 +251,12 @@ fn write_row(
     let to = hour_text(alloc, hours.to)?;
     let billed = fw_money::text(alloc, row.costs.billed)?;
     let effective = fw_money::text(alloc, row.costs.effective)?;
+    let amount = amount_text(alloc, sheet, row)?;
     let kind = kind_of(row);
     let mut fields = front(alloc, has_hours(sheet), from.as_str(), to.as_str(), kind)?;
     push_texts(&mut fields, sheet.keys.len(), row)?;
     push_costs(&mut fields, billed.as_str(), effective.as_str())?;
+    push_sum(&mut fields, lent(&amount))?;
     write_record(writer, fields.as_slice())
 }
 

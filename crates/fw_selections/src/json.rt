@@ -1,9 +1,9 @@
 //! Selections as JSON.
-ghost use Rattle.std.specs.Prelude.{◌≡◌, ◌++◌, IfOk, OnOk, Some, map, string_bytes};
+ghost use Rattle.std.specs.Prelude.{◌≡◌, ◌++◌, IfOk, OnOk, Some, map, option_copied, string_bytes};
 ghost use Rattle.serde_json.specs.Data.{string};
 ghost use Rattle.serde_json.specs.Written.{compact_text};
-ghost use Rattle.fw_selections.specs.JsonMembers.{WritesAll, WritesHead, WritesHours, WritesPart, WritesParts, WritesPeriods, WritesSelections, comma_at, listed, member_text, members_line};
-ghost use Rattle.fw_selections.specs.JsonText.{IsJsonText, costs_members, key_members, key_names, keyed_rows, row_object, selection_members, step_word};
+ghost use Rattle.fw_selections.specs.JsonMembers.{WritesAll, WritesHead, WritesHours, WritesPart, WritesParts, WritesPeriods, WritesSelections, comma_at, later_members, listed, member_text, members_line};
+ghost use Rattle.fw_selections.specs.JsonText.{IsJsonText, costs_members, key_members, columns_of, keyed_rows, row_object, selection_members, step_word, sum_members};
 ghost use Rattle.fw_selections.specs.Shown.{is_chosen, row_value};
 
 use crate::csv_text::{kind_of, text_at};
@@ -135,7 +135,7 @@ fn push_periods(
     chosen: Shown<'_>,
 ) -> Result<(), AllocError>
     ensures { OnOk result (WritesPeriods (string_bytes text.old) (string_bytes text.new)
-        (key_names sheet.now) (is_chosen chosen.entry) sheet.now.step parts.now) }
+        (columns_of sheet.now) (is_chosen chosen.entry) sheet.now.step parts.now) }
 {
     match sheet.step {
         Some(step) => push_cut(alloc, text, step, parts, sheet, chosen),
@@ -153,7 +153,7 @@ fn push_cut(
     chosen: Shown<'_>,
 ) -> Result<(), AllocError>
     ensures { OnOk result (WritesPeriods (string_bytes text.old) (string_bytes text.new)
-        (key_names sheet.now) (is_chosen chosen.entry) (Some step) parts.now) }
+        (columns_of sheet.now) (is_chosen chosen.entry) (Some step) parts.now) }
 {
     text.push_str(",\"by\":\"")?;
     text.push_str(word_of(step))?;
@@ -183,7 +183,7 @@ fn push_parts(
     chosen: Shown<'_>,
 ) -> Result<(), AllocError>
     ensures { OnOk result (WritesParts (string_bytes text.old) (string_bytes text.new)
-        (key_names sheet.now) (is_chosen chosen.entry) parts.now) }
+        (columns_of sheet.now) (is_chosen chosen.entry) parts.now) }
 {
     for (place, part) in parts.iter().enumerate() {
         push_comma(text, place)?;
@@ -201,7 +201,7 @@ fn push_part(
     chosen: Shown<'_>,
 ) -> Result<(), AllocError>
     ensures { OnOk result (WritesPart (string_bytes text.old) (string_bytes text.new)
-        (key_names sheet.now) (is_chosen chosen.entry) part.now) }
+        (columns_of sheet.now) (is_chosen chosen.entry) part.now) }
 {
     text.push_str("{")?;
     push_hours(alloc, text, part.period)?;
@@ -220,13 +220,13 @@ fn push_selection(
     chosen: Shown<'_>,
 ) -> Result<(), AllocError>
     ensures { OnOk result (string_bytes text.new ≡ string_bytes text.old ++ members_line
-        (selection_members (key_names sheet.now) (is_chosen chosen.entry) selection.now)) }
+        (selection_members (columns_of sheet.now) (is_chosen chosen.entry) selection.now)) }
 {
     let all = all_costs(selection)?;
     text.push_str("\"groups\":[")?;
     push_groups(alloc, text, selection, sheet, chosen)?;
     text.push_str("],\"total\":{")?;
-    push_costs(alloc, text, all)?;
+    push_costs(alloc, text, sheet.sum, all)?;
     text.push_str("}")?;
     Ok(())
 }
@@ -240,8 +240,8 @@ fn push_groups(
     chosen: Shown<'_>,
 ) -> Result<(), AllocError>
     ensures { OnOk result (string_bytes text.new ≡ string_bytes text.old ++ listed
-        (map (λ row. compact_text (row_object (key_names sheet.now) row))
-        (keyed_rows (key_names sheet.now) (is_chosen chosen.entry) selection.now))) }
+        (map (λ row. compact_text (row_object (columns_of sheet.now) row))
+        (keyed_rows (columns_of sheet.now).keys (is_chosen chosen.entry) selection.now))) }
 {
     if sheet.keys.is_empty() {
         return Ok(());
@@ -259,7 +259,7 @@ fn push_rows(
     rows: &[Row<'_>],
 ) -> Result<(), AllocError>
     ensures { OnOk result (string_bytes text.new ≡ string_bytes text.old ++ listed
-        (map (λ row. compact_text (row_object (key_names sheet.now) (row_value row)))
+        (map (λ row. compact_text (row_object (columns_of sheet.now) (row_value row)))
         rows.now)) }
 {
     for (place, row) in rows.iter().enumerate() {
@@ -277,14 +277,14 @@ fn push_row(
     row: &Row<'_>,
 ) -> Result<(), AllocError>
     ensures { OnOk result (string_bytes text.new ≡ string_bytes text.old
-        ++ compact_text (row_object (key_names sheet.now) (row_value row.now))) }
+        ++ compact_text (row_object (columns_of sheet.now) (row_value row.now))) }
 {
     text.push_str("{\"keys\":{")?;
     push_keys(alloc, text, sheet.keys, row)?;
     text.push_str("},\"kind\":\"")?;
     text.push_str(kind_of(row))?;
     text.push_str("\",")?;
-    push_costs(alloc, text, row.costs)?;
+    push_costs(alloc, text, sheet.sum, row.costs)?;
     text.push_str("}")?;
     Ok(())
 }
@@ -319,10 +319,15 @@ fn push_member(alloc: Global, text: &mut String, name: &str, value: &str) -> Res
     Ok(())
 }
 
-// Adds the members of costs.
-fn push_costs(alloc: Global, text: &mut String, costs: Costs) -> Result<(), AllocError>
+// Adds the members of costs, and of the sum of a tag's amounts, where a tag has amounts.
+fn push_costs(
+    alloc: Global,
+    text: &mut String,
+    sum: Option<&str>,
+    costs: Costs,
+) -> Result<(), AllocError>
     ensures { OnOk result (string_bytes text.new ≡ string_bytes text.old
-        ++ members_line (costs_members costs)) }
+        ++ members_line (costs_members (option_copied sum.entry) costs)) }
 {
     let billed = fw_money::text(alloc, costs.billed)?;
     let effective = fw_money::text(alloc, costs.effective)?;
@@ -331,5 +336,34 @@ fn push_costs(alloc: Global, text: &mut String, costs: Costs) -> Result<(), Allo
     text.push_str("\",\"effective\":\"")?;
     text.push_str(effective.as_str())?;
     text.push_str("\"")?;
+    push_sum(alloc, text, sum, costs)?;
+    Ok(())
+}
+
+// Adds the member of the sum of a tag's amounts with a comma in front, where a tag has amounts.
+fn push_sum(
+    alloc: Global,
+    text: &mut String,
+    sum: Option<&str>,
+    costs: Costs,
+) -> Result<(), AllocError>
+    ensures { OnOk result (string_bytes text.new ≡ string_bytes text.old
+        ++ later_members (sum_members (option_copied sum.entry) costs.amount)) }
+{
+    match sum {
+        Some(tag) => push_sum_of(alloc, text, tag, costs),
+        None => Ok(()),
+    }
+}
+
+// Adds the member of the sum of a tag's amounts with a comma in front.
+fn push_sum_of(alloc: Global, text: &mut String, tag: &str, costs: Costs) -> Result<(), AllocError>
+    ensures { OnOk result (string_bytes text.new ≡ string_bytes text.old
+        ++ later_members (sum_members (Some tag.now) costs.amount)) }
+{
+    let amount = fw_money::text(alloc, costs.amount)?;
+    text.push_str(",\"sums\":{")?;
+    push_member(alloc, text, tag, amount.as_str())?;
+    text.push_str("}")?;
     Ok(())
 }

@@ -16,11 +16,12 @@ pub(crate) struct Row<'g> {
     pub(crate) costs: Costs,
 }
 
-/// Costs in nanos.
+/// Costs, and the sum of an amount beside them, in nanos.
 #[derive(Clone, Copy, Debug, Drop)]
 pub(crate) struct Costs {
     pub(crate) billed: i128,
     pub(crate) effective: i128,
+    pub(crate) amount: i128,
 }
 
 impl Costs {
@@ -28,6 +29,7 @@ impl Costs {
     pub(crate) const NONE: Costs = Costs {
         billed: 0,
         effective: 0,
+        amount: 0,
     };
 
     /// The costs of a group.
@@ -37,6 +39,7 @@ impl Costs {
         Costs {
             billed: group.billed(),
             effective: group.effective(),
+            amount: group.amount(),
         }
     }
 
@@ -46,8 +49,13 @@ impl Costs {
     {
         let billed = self.billed.checked_add(group.billed());
         let effective = self.effective.checked_add(group.effective());
-        match (billed, effective) {
-            (Some(billed), Some(effective)) => Ok(Costs { billed, effective }),
+        let amount = self.amount.checked_add(group.amount());
+        match (billed, effective, amount) {
+            (Some(billed), Some(effective), Some(amount)) => Ok(Costs {
+                billed,
+                effective,
+                amount,
+            }),
             _ => Err(AllocError),
         }
     }

@@ -64,6 +64,8 @@ pub struct Sheet<'s, 'n, 'c> {
     pub step: Option<Step>,
     /// How many groups have a row of their own; where there is none, all have.
     pub top: Option<usize>,
+    /// The tag whose amounts the groups have beside their costs, where they have some.
+    pub sum: Option<&'n str>,
 }
 
 /// Selections in a format. The one error is that memory ran out, or that a sum of groups passes 128 bits.

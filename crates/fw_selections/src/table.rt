@@ -1,10 +1,11 @@
 //! Selections as tables.
-ghost use Rattle.std.specs.Prelude.{◌≡◌, ◌++◌, ◌∷◌, [], IfOk, OnOk, codes, if◌then◌else◌, map, replicate, string_bytes};
+ghost use Rattle.std.specs.Prelude.{◌≡◌, ◌++◌, ◌∷◌, [], IfOk, OnOk, codes, if◌then◌else◌, map, option_copied, replicate, string_bytes};
 ghost use Rattle.std.specs.Option.{is_some};
-ghost use Rattle.fw_selections.specs.Lines.{AddsCosts, AddsPart, AddsParts, AddsRows, AddsShown};
+ghost use Rattle.fw_selections.specs.Lines.{AddsCosts, AddsPart, AddsParts, AddsRows, AddsShown, AddsSum};
 ghost use Rattle.fw_selections.specs.Shown.{costs_of, is_chosen, row_value};
-ghost use Rattle.fw_selections.specs.TableText.{AreGroupLines, AreLines, ArePeriod, AreSums, IsRow, IsTotal, blanks, cells, heads, is_sums, line_value, shown_at, shown_under};
-ghost use Rattle.fw_selections.specs.Written.{parts_by};
+ghost use Rattle.fw_selections.specs.TableText.{AreGroupLines, AreLines, ArePeriod, AreSums, IsCosts, IsRow, IsTotal, blanks, cells, heads, is_sums, line_value, shown_at, shown_under};
+ghost use Rattle.fw_selections.specs.CsvText.{in_sum};
+ghost use Rattle.fw_selections.specs.Written.{parts_by, sum_name};
 ghost use Rattle.fw_table.specs.Shown.{AreShownLines};
 
 use crate::parts::{SelectedPart, Selections};
@@ -57,6 +58,9 @@ fn aligns_of(alloc: Global, sheet: &Sheet<'_, '_, '_>) -> Result<Vec<Align>, All
     if !is_sums(sheet) {
         aligns.push(Align::Right)?;
     }
+    if sheet.sum.is_some() {
+        aligns.push(Align::Right)?;
+    }
     Ok(aligns)
 }
 
@@ -70,35 +74,89 @@ fn lines_of(
         (map line_value lines.items)) }
 {
     if is_sums(sheet) {
-        return sums_lines(alloc, &selections.whole);
+        return sums_lines(alloc, sheet, &selections.whole);
     }
     group_lines(alloc, selections, sheet)
 }
 
 // The lines of costs alone.
-fn sums_lines(alloc: Global, selection: &Selection) -> Result<Vec<Line>, AllocError>
-    ensures { IfOk result (λ lines.
-        AreSums (costs_of selection.now) (map line_value lines.items)) }
+fn sums_lines(
+    alloc: Global,
+    sheet: &Sheet<'_, '_, '_>,
+    selection: &Selection,
+) -> Result<Vec<Line>, AllocError>
+    ensures { IfOk result (λ lines. AreSums (sum_name sheet.now) (costs_of selection.now)
+        (map line_value lines.items)) }
 {
     let all = all_costs(selection)?;
-    let billed = cents_text(alloc, all.billed)?;
-    let effective = cents_text(alloc, all.effective)?;
     let mut lines = Vec::new(alloc);
-    lines.push(pair_line(alloc, "BilledCost", "EffectiveCost")?)?;
+    lines.push(names_line(alloc, sheet)?)?;
     lines.push(Line::Rule)?;
-    lines.push(pair_line(alloc, billed.as_str(), effective.as_str())?)?;
+    lines.push(costs_line(alloc, sheet, all)?)?;
     Ok(lines)
 }
 
-// A line of two texts.
-fn pair_line(alloc: Global, first: &str, second: &str) -> Result<Line, AllocError>
-    ensures { IfOk result (λ line.
-        line_value line ≡ cells (first.now ∷ (second.now ∷ []))) }
+// The line of the names of costs alone.
+fn names_line(alloc: Global, sheet: &Sheet<'_, '_, '_>) -> Result<Line, AllocError>
+    ensures { IfOk result (λ line. line_value line ≡ cells (codes "BilledCost"
+        ∷ (codes "EffectiveCost" ∷ in_sum (sum_name sheet.now)))) }
+{
+    let mut texts = pair_of(alloc, "BilledCost", "EffectiveCost")?;
+    push_sum_name(alloc, &mut texts, sheet.sum)?;
+    Ok(Line::Cells(texts))
+}
+
+// The line of costs alone.
+fn costs_line(alloc: Global, sheet: &Sheet<'_, '_, '_>, costs: Costs) -> Result<Line, AllocError>
+    ensures { IfOk result (λ line. IsCosts (sum_name sheet.now) costs (line_value line)) }
+{
+    let billed = cents_text(alloc, costs.billed)?;
+    let effective = cents_text(alloc, costs.effective)?;
+    let mut texts = pair_of(alloc, billed.as_str(), effective.as_str())?;
+    push_sum(alloc, &mut texts, sheet.sum, costs)?;
+    Ok(Line::Cells(texts))
+}
+
+// Two texts.
+fn pair_of(alloc: Global, first: &str, second: &str) -> Result<Vec<String>, AllocError>
+    ensures { IfOk result (λ texts.
+        map string_bytes texts.items ≡ first.now ∷ (second.now ∷ [])) }
 {
     let mut texts = Vec::new(alloc);
     push_text(alloc, &mut texts, first)?;
     push_text(alloc, &mut texts, second)?;
-    Ok(Line::Cells(texts))
+    Ok(texts)
+}
+
+// Adds the tag whose amounts stand beside the costs, where one's do.
+fn push_sum_name(
+    alloc: Global,
+    texts: &mut Vec<String>,
+    sum: Option<&str>,
+) -> Result<(), AllocError>
+    ensures { OnOk result (map string_bytes texts.new.items
+        ≡ map string_bytes texts.old.items ++ in_sum (option_copied sum.entry)) }
+{
+    match sum {
+        Some(tag) => push_text(alloc, texts, tag),
+        None => Ok(()),
+    }
+}
+
+// Adds the text of the amount beside costs, where a tag has amounts.
+fn push_sum(
+    alloc: Global,
+    texts: &mut Vec<String>,
+    sum: Option<&str>,
+    costs: Costs,
+) -> Result<(), AllocError>
+    ensures { OnOk result (AddsSum (map string_bytes texts.old.items)
+        (map string_bytes texts.new.items) (option_copied sum.entry) costs) }
+{
+    if let Some(_tag) = sum {
+        texts.push(cents_text(alloc, costs.amount)?)?;
+    }
+    Ok(())
 }
 
 // The lines of groups.
@@ -128,6 +186,7 @@ fn head_line(alloc: Global, sheet: &Sheet<'_, '_, '_>) -> Result<Line, AllocErro
     push_text(alloc, &mut texts, "BilledCost")?;
     push_text(alloc, &mut texts, "EffectiveCost")?;
     push_text(alloc, &mut texts, "Share")?;
+    push_sum_name(alloc, &mut texts, sheet.sum)?;
     Ok(Line::Cells(texts))
 }
 
@@ -241,14 +300,7 @@ fn push_part(
     let all = all_costs(selection)?;
     let period = period_texts(alloc, sheet.step, hours)?;
     let rows = rows_under(alloc, sheet.keys, selection, chosen)?;
-    push_rows(
-        alloc,
-        lines,
-        sheet.keys,
-        period.as_slice(),
-        all,
-        rows.as_slice(),
-    )?;
+    push_rows(alloc, lines, sheet, period.as_slice(), all, rows.as_slice())?;
     Ok(())
 }
 
@@ -267,17 +319,17 @@ fn period_texts(alloc: Global, step: Option<Step>, hours: Period) -> Result<Vec<
 fn push_rows(
     alloc: Global,
     lines: &mut Vec<Line>,
-    keys: &[KeyName<'_>],
+    sheet: &Sheet<'_, '_, '_>,
     period: &[String],
     all: Costs,
     rows: &[Row<'_>],
 ) -> Result<(), AllocError>
     ensures { OnOk result (AddsRows (map line_value lines.old.items)
-        (map line_value lines.new.items) keys.now (map string_bytes period.now) all
+        (map line_value lines.new.items) sheet.now (map string_bytes period.now) all
         (map row_value rows.now)) }
 {
     for row in rows {
-        lines.push(row_line(alloc, keys, period, all, row)?)?;
+        lines.push(row_line(alloc, sheet, period, all, row)?)?;
     }
     Ok(())
 }
@@ -285,17 +337,18 @@ fn push_rows(
 // The line of a row.
 fn row_line(
     alloc: Global,
-    keys: &[KeyName<'_>],
+    sheet: &Sheet<'_, '_, '_>,
     period: &[String],
     all: Costs,
     row: &Row<'_>,
 ) -> Result<Line, AllocError>
-    ensures { IfOk result (λ line. IsRow keys.now (map string_bytes period.now) all
+    ensures { IfOk result (λ line. IsRow sheet.now (map string_bytes period.now) all
         (row_value row.now) (line_value line)) }
 {
     let mut texts = copied(alloc, period)?;
-    push_shown_texts(alloc, &mut texts, keys, row)?;
+    push_shown_texts(alloc, &mut texts, sheet.keys, row)?;
     push_costs(alloc, &mut texts, row.costs, all)?;
+    push_sum(alloc, &mut texts, sheet.sum, row.costs)?;
     Ok(Line::Cells(texts))
 }
 
@@ -353,6 +406,7 @@ fn total_line(
     push_text(alloc, &mut texts, "Total")?;
     push_blanks(alloc, &mut texts, blanks_of(sheet))?;
     push_costs(alloc, &mut texts, all, all)?;
+    push_sum(alloc, &mut texts, sheet.sum, all)?;
     Ok(Line::Cells(texts))
 }
 

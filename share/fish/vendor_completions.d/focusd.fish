@@ -98,6 +98,7 @@ complete -c focusd -n '__focusd_runs report' -l column -x -a 'SkuId SubAccountId
 complete -c focusd -n '__focusd_runs report' -l where -x -d 'Counts the lines alone on which the tag or column KEY is VALUE, or one of several VALUEs'
 complete -c focusd -n '__focusd_runs report' -l where-not -x -d 'Leaves out the lines on which the tag or column KEY is VALUE'
 complete -c focusd -n '__focusd_runs report' -l map -x -d 'Renames and joins values by the maps of a TOML file, - for standard input'
+complete -c focusd -n '__focusd_runs report' -l sum -x -d 'Sums the amounts of rows in this tag too, such as ListCost, which an import kept'
 complete -c focusd -n '__focusd_runs report' -l total-only -d 'Prints the sums of all lines that count, without groups'
 complete -c focusd -n '__focusd_runs report' -l from -x -d 'When the range begins; without it, at the first hour that has a row'
 complete -c focusd -n '__focusd_runs report' -l to -x -d 'When the range ends; the hour that begins then is not in it. Without it, behind the last hour that has a row'

@@ -7,10 +7,10 @@ use Rattle.fw_figures.proofs.prices.add_hour.Goals as goal
 
 pub returns-in_default : goal.returns-in_default
 returns-in_default c = λ before sums.
-    counts_none c.args.counter.now before c.args.selector.now c.args.roster.now.commitments _ c.args.rows.now c.args.hour c.in_default.ensures sums
+    counts_none c.args.counter.now before c.args.selector.now c.args.counted c.args.roster.now.commitments c.args.rows.now c.args.hour c.in_default.ensures sums
 
-pub lines_at_prices-requires : goal.lines_at_prices-requires
-lines_at_prices-requires c = rw c.in-Some.ensures c.requires.hour
+pub lines-requires : goal.lines-requires
+lines-requires c = rw c.in-Some.ensures c.requires.hour
 
 pub returns : goal.returns
 returns c =

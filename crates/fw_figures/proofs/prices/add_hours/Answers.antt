@@ -4,7 +4,7 @@ use Rattle.fw_charge.specs.Charge.{Charge, hour_of}
 use Rattle.fw_sums.specs.Hours.{lent, rows_at, rows_of_list}
 use Rattle.fw_sums.proofs.HourFacts.{has_hour}
 use Rattle.fw_sums.proofs.TurnFacts.{of_turn, there_in_turn}
-use Rattle.fw_figures.specs.Prices.{CountsHour}
+use Rattle.fw_figures.specs.Prices.{AreCounted, CountsHour}
 use Rattle.fw_figures.proofs.PriceFacts.{HasCounted-more}
 use Rattle.fw_figures.proofs.prices.add_hours.Goals as goal
 
@@ -40,10 +40,10 @@ loop-places-preserved c =
     ∙ ap (λ v. map found (take c.loop-places.places-index c.args.by_hour.now) ++ found v ∷ []) (sym c.places-item.is) in
     let rows : c.as_slice-in-loop-places.result.now ≡ found c.places-item.result =
     c.as_slice-in-loop-places.ensures.value ∙ c.in_ok-rows.ensures ∙ ap (rows_at (lent c.args.segments.now)) c.as_slice.ensures.value in
-    let added : CountsHour c.add_hour.new.counter kept.counted.lines c.args.selector.now c.args.roster.now.commitments _ (found c.places-item.result) c.loop-places.hour =
+    let added : CountsHour c.add_hour.new.counter kept.counted.lines c.args.selector.now (AreCounted c.args.counted c.args.roster.now.commitments) (found c.places-item.result) c.loop-places.hour =
     rw rows at (c.in_ok-add_hour.ensures kept.counted.lines kept.counted.sums) in
     record {
-      counted = rw more (HasCounted-more _ c.add_hour.new.counter c.args.selector.now c.args.roster.now.commitments _ c.args.from c.loop-places.hour _ (found c.places-item.result) (kept.at ∙ ap (λ n. c.args.from + n) (sym long)) kept.counted added);
+      counted = rw more (HasCounted-more _ c.add_hour.new.counter c.args.selector.now (AreCounted c.args.counted c.args.roster.now.commitments) c.args.from c.loop-places.hour _ (found c.places-item.result) (kept.at ∙ ap (λ n. c.args.from + n) (sym long)) kept.counted added);
       at = let h = kept.at in omega arith;
     }
 

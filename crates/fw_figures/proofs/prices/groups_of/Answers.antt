@@ -1,4 +1,4 @@
-use Rattle.std.proofs.Common.{◌≡◌, ◌∙◌, ap, arith, false, get_or, length, map, option_copied, replicate, subst, true}
+use Rattle.std.proofs.Common.{◌≡◌, ◌∙◌, ap, arith, false, get_or, length, map, replicate, subst, true}
 use Rattle.std.specs.List.{range_with_len}
 use Rattle.std.proofs.lemmas.List.{get_or-replicate, length-replicate}
 use Rattle.fw_amortise.specs.Lines.{rows_in}
@@ -6,7 +6,7 @@ use Rattle.fw_sums.specs.Hours.{all_rows, lent, rows_marked, rows_of_list}
 use Rattle.fw_sums.proofs.HourFacts.{by_hour_long}
 use Rattle.fw_sums.proofs.MarkFacts.{every_hour}
 use Rattle.fw_select.specs.Selectors.{costs_of}
-use Rattle.fw_figures.specs.Prices.{ArePricesOf, HasCounted}
+use Rattle.fw_figures.specs.Prices.{AreLinesByHour, AreCounted, HasCounted}
 use Rattle.fw_figures.proofs.prices.groups_of.Goals as goal
 
 pub add_hours-requires-clause-fits : goal.add_hours-requires-clause-fits
@@ -34,10 +34,10 @@ returns c =
     c.in_ok-by_hour.ensures.each
     ∙ ap (λ n. map (λ h. rows_in h (rows_marked c.as_slice.result.now c.args.from rows)) (range_with_len c.args.from n)) (ap length items ∙ length-replicate c.args.hours true)
     ∙ every_hour rows c.args.from c.args.hours c.as_slice.result.now (λ k below. ap (λ l. get_or l k false) items ∙ get_or-replicate c.args.hours k true false below) in
-    let done : HasCounted c.add_hours.new.counter c.args.selector.now c.args.commitments.now (option_copied c.args.tag) c.args.from (map (rows_of_list (lent c.args.segments.now)) c.in_ok-by_hour.by_hour.items) =
+    let done : HasCounted c.add_hours.new.counter c.args.selector.now (AreCounted c.args.counted c.args.commitments.now) c.args.from (map (rows_of_list (lent c.args.segments.now)) c.in_ok-by_hour.by_hour.items) =
     rw (c.in_ok-roster.ensures, c.as_slice-2.ensures.value) at c.in_ok-add_hours.ensures in
     record {
       lines = done.lines;
-      are_lines = subst (λ by_hour. ArePricesOf c.args.commitments.now (option_copied c.args.tag) c.args.from by_hour done.lines) each done.are_lines;
+      are_lines = subst (λ by_hour. AreLinesByHour (AreCounted c.args.counted c.args.commitments.now) c.args.from by_hour done.lines) each done.are_lines;
       are_totals = c.in_ok-into_groups.ensures (costs_of c.args.selector.now done.lines) done.sums;
     }

@@ -1,7 +1,7 @@
 use Rattle.std.proofs.Common.{◌∙◌, ◌++◌, ◌∷◌, [], ap}
 use Rattle.std.specs.Prelude.{codes}
 use Rattle.fw_selections.specs.JsonMembers.{members_line}
-use Rattle.fw_selections.specs.JsonText.{asked_members, key_names, selection_members}
+use Rattle.fw_selections.specs.JsonText.{asked_members, columns_of, selection_members}
 use Rattle.fw_selections.proofs.JsonWritten.{text_written}
 use Rattle.fw_selections.proofs.json.json_text.Goals as goal
 
@@ -11,7 +11,7 @@ returns c =
     let selections = c.args.selections.now in
     let head = c.in_ok-push_head.ensures in
     let shown = c.in_ok-push_selections.ensures in
-    let all = members_line (selection_members (key_names sheet) shown.chosen selections.whole ++ shown.all.periods) in
+    let all = members_line (selection_members (columns_of sheet) shown.chosen selections.whole ++ shown.all.periods) in
     record {
       chosen = shown.chosen;
       are_chosen = shown.are_chosen;

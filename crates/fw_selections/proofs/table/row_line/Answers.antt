@@ -7,12 +7,18 @@ use Rattle.fw_selections.proofs.table.row_line.Goals as goal
 pub returns : goal.returns
 returns c =
     let added = c.in_ok-push_costs.ensures in
+    let more = c.in_ok-push_sum.ensures in
     let period = map string_bytes c.args.period.now in
-    let shown = shown_under c.args.keys.now (row_value c.args.row.now).texts in
+    let shown = shown_under c.args.sheet.now.keys.now (row_value c.args.row.now).texts in
     record {
       costs = added.texts;
       are_costs = added.are_costs;
-      line_is = ap cells (added.added
+      sums = more.texts;
+      are_sums = more.are_sums;
+      line_is = ap cells (more.added
+          ∙ ap (λ t. t ++ more.texts) (added.added
           ∙ ap (λ t. t ++ added.texts) (c.in_ok-push_shown_texts.ensures ∙ ap (λ t. t ++ shown) c.in_ok-texts.ensures)
-          ∙ append_assoc period shown added.texts);
+          ∙ append_assoc period shown added.texts)
+          ∙ append_assoc period (shown ++ added.texts) more.texts
+          ∙ ap (λ t. period ++ t) (append_assoc shown added.texts more.texts));
     }

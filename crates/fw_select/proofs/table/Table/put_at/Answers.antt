@@ -12,7 +12,7 @@ returns-clause-sums c = λ group there.
     let m = c.args.self.now.by_group in
     let place = c.args.place in
     let e = c.pair_mut-sums.ensures in
-    let cost : GroupCost = record { group = group; billed = c.args.added.billed; effective = c.args.added.effective } in
+    let cost : GroupCost = record { group = group; billed = c.args.added.billed; effective = c.args.added.effective; amount = c.args.added.amount } in
     let had : sums_at c.args.self.now group ≡ Some c.pair_mut-sums.result.1.now = had_at_place m place _ _ group e.unique e.value there in
     record {
       sums = λ g.

@@ -13,7 +13,7 @@ returns-clause-sums c =
     let group = c.args.group.now in
     let m = c.args.self.now.by_group in
     let copy = c.in_ok-copy_of.field-0 in
-    let cost : GroupCost = record { group = texts_of group; billed = c.args.added.billed; effective = c.args.added.effective } in
+    let cost : GroupCost = record { group = texts_of group; billed = c.args.added.billed; effective = c.args.added.effective; amount = c.args.added.amount } in
     let texts : texts_of copy ≡ texts_of group = c.in_ok-copy_of.ensures ∙ ap (map string_bytes) c.deref.ensures.value in
     record {
       sums = λ g.
