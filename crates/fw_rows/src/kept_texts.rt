@@ -63,7 +63,7 @@ pub struct Keeper {
     places: IndexMap<u64, usize>,
     // where that of the next record may be
     next: usize,
-    // how many bytes they have together
+    // how many bytes these have together, and those whose tags were read
     bytes: usize,
 }
 
@@ -125,6 +125,7 @@ impl Keeper {
         ensures same { self.new.keeps ≡ self.old.keeps }
     {
         if self.known.len() > MOST_KNOWN || self.bytes > MOST_BYTES {
+            self.read = KnownTags::new(alloc);
             self.known = Vec::new(alloc);
             self.places = IndexMap::new(alloc);
             self.bytes = 0;
@@ -229,6 +230,7 @@ impl Keeper {
         };
         let kept = add_kept(alloc, &stated, self.keeps.as_slice(), values)?;
         self.read.note(tags, stated)?;
+        self.bytes = self.bytes.saturating_add(tags.len());
         Ok(kept)
     }
 }
