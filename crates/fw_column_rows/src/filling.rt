@@ -1,10 +1,13 @@
 //! Columns that the records of a text fill.
-ghost use Rattle.std.specs.Prelude.{◌≡◌, ◌<◌, ◌≤◌, ◌+◌, [], Ok, length, slice_index_or, IfOk, OnOk};
+ghost use Rattle.std.specs.Prelude.{◌≡◌, ◌<◌, ◌≤◌, ◌+◌, ◌++◌, ◌∷◌, ℕ, List, [], Ok, length, slice_index_or, IfOk, OnOk};
+ghost use Rattle.fw_charge.specs.Tags.{IsTags, TagText};
+ghost use Rattle.fw_columns.specs.RowViews.{charge_with, tags_at};
 ghost use Rattle.fw_rows.specs.Judged.{JudgedWithin};
 ghost use Rattle.fw_rows.specs.Parts.{texts_of, TagsAnswer};
 ghost use Rattle.fw_rows.specs.Rules.{length_rules};
 ghost use Rattle.fw_rows.specs.declared.column.Column.TheVariants as column;
-ghost use Rattle.fw_column_rows.specs.Filling.{most_texts, AreTagsOf, HasTagsOf, AddsView};
+ghost use Rattle.fw_rows.specs.Sinks.{CanGive, StatesGiven, with_text};
+ghost use Rattle.fw_column_rows.specs.Filling.{most_texts, AreTagsOf, HasTagsOf, AddsView, IsAdded};
 ghost use Rattle.fw_column_rows.specs.Views.{ViewStands};
 ghost use Rattle.fw_charge.specs.Charge.{most_post_rows};
 
@@ -12,7 +15,9 @@ use crate::known::KnownTexts;
 use crate::view::view_of;
 use fw_charge::{Currency, Tags};
 use fw_columns::{ColumnsBuilder, RowView};
-use fw_rows::{Cells, Column, PeriodReaders, RecordFault, Refusal, RowSink};
+use fw_rows::{
+    Cells, Column, GivenTags, KeepingSink, PeriodReaders, RecordFault, Refusal, RowSink,
+};
 use std::alloc::{AllocError, Global};
 
 /// The columns of the rows so far, and what was read for them: the texts of tags, and the last period.
@@ -88,7 +93,7 @@ impl Filling {
         let code = self.text_code(cells.text(Column::Tags))?;
         let text = code as usize;
         match self.places[text].checked_sub(1) {
-            Some(place) => add_known(&mut self.columns, row, cells, place as usize),
+            Some(place) => add_like(&mut self.columns, row, cells, place as usize),
             None => {
                 let alloc = *self.places.allocator();
                 self.places[text] = self.columns.len() as u32 + 1;
@@ -98,8 +103,8 @@ impl Filling {
     }
 }
 
-/// Adds the row with these values of a record, and with the tags of the row at a place, which its text states too, if lengths break no rule.
-fn add_known(
+/// Adds the row with these values of a record, and with the tags of the row at a place, if lengths break no rule.
+fn add_like(
     columns: &mut ColumnsBuilder,
     row: &RowView<'_>,
     cells: &Cells<'_>,
@@ -107,16 +112,60 @@ fn add_known(
 ) -> Result<(), Refusal>
     requires room { length columns.old < most_post_rows }
     requires stands { ViewStands (texts_of cells.now) row.now }
-    requires known { HasTagsOf (texts_of cells.now column.Tags) place columns.old }
-    ensures { let at = texts_of cells.now
-        in JudgedWithin (length_rules at)
-        (λ _. AddsView at row.now columns.old columns.new) result }
+    requires within { place < length columns.old }
+    requires valid { IsTags (tags_at columns.old place) }
+    ensures { IsAdded (texts_of cells.now) row.now (tags_at columns.old place)
+        columns.old columns.new result }
 {
     if !cells.are_short() {
         return Err(Refusal::Broken(RecordFault::TooLong));
     }
     columns.push_like(row, place)?;
     Ok(())
+}
+
+/// Adds the row with these values of a record, and with these tags, if lengths break no rule.
+fn add_these(
+    columns: &mut ColumnsBuilder,
+    row: &RowView<'_>,
+    cells: &Cells<'_>,
+    tags: &Tags,
+) -> Result<(), Refusal>
+    requires room { length columns.old < most_post_rows }
+    requires stands { ViewStands (texts_of cells.now) row.now }
+    ensures row { IsAdded (texts_of cells.now) row.now tags.now columns.old columns.new result }
+    ensures valid { IsTags tags.now }
+{
+    prove!(tags.as_slice().len() <= Tags::MOST);
+    if !cells.are_short() {
+        return Err(Refusal::Broken(RecordFault::TooLong));
+    }
+    columns.push(row, tags)?;
+    Ok(())
+}
+
+/// Adds the row with these values of a record, and with given tags, if these and lengths break no rule.
+fn add_given(
+    columns: &mut ColumnsBuilder,
+    row: &RowView<'_>,
+    cells: &Cells<'_>,
+    tags: GivenTags<'_>,
+) -> Result<(), Refusal>
+    requires room { length columns.old < most_post_rows }
+    requires stands { ViewStands (texts_of cells.now) row.now }
+    requires given { CanGive columns.old tags }
+    ensures row { (text : List ℕ) → StatesGiven columns.old tags.entry text
+        → let at = with_text (texts_of cells.now) text
+        in JudgedWithin (length_rules at)
+        (λ _. AddsView at row.now columns.old columns.new) result }
+    ensures more { OnOk result ((tags : List TagText)
+        × (columns.new ≡ columns.old ++ charge_with row.now tags ∷ [])) }
+{
+    match tags {
+        GivenTags::Like(place) => add_like(columns, row, cells, place),
+        GivenTags::These(tags) => add_these(columns, row, cells, tags),
+        GivenTags::TooLong => Err(Refusal::Broken(RecordFault::TooLong)),
+    }
 }
 
 /// Adds the row with these values of a record, and with the tags that its text states, which has a code, if tags and lengths break no rule. The tags are
@@ -141,35 +190,11 @@ fn add_new(
     ensures texts { known.new ≡ known.old }
 {
     if let Some(tags) = known.tags(code) {
-        return add_with(columns, row, cells, tags);
+        return add_these(columns, row, cells, tags);
     }
     let tags = cells.short_tags(alloc)?;
     columns.push(row, &tags)?;
     known.note(code, tags);
-    Ok(())
-}
-
-/// Adds the row with these values of a record, and with these tags, which its text states, if lengths break no rule.
-fn add_with(
-    columns: &mut ColumnsBuilder,
-    row: &RowView<'_>,
-    cells: &Cells<'_>,
-    tags: &Tags,
-) -> Result<(), Refusal>
-    requires room { length columns.old < most_post_rows }
-    requires stands { ViewStands (texts_of cells.now) row.now }
-    requires stated { TagsAnswer (texts_of cells.now column.Tags) (Ok tags.now) }
-    ensures row { let at = texts_of cells.now
-        in JudgedWithin (length_rules at)
-        (λ _. AddsView at row.now columns.old columns.new) result }
-    ensures tags { OnOk result (HasTagsOf (texts_of cells.now column.Tags)
-        (length columns.old) columns.new) }
-{
-    prove!(tags.as_slice().len() <= Tags::MOST);
-    if !cells.are_short() {
-        return Err(Refusal::Broken(RecordFault::TooLong));
-    }
-    columns.push(row, tags)?;
     Ok(())
 }
 
@@ -181,6 +206,20 @@ impl RowSink for Filling {
     fn add(&mut self, cells: &Cells<'_>, currency: Currency) -> Result<(), Refusal> {
         match view_of(cells, currency, &mut self.periods) {
             Ok(row) => self.add_view(&row, cells),
+            Err(fault) => Err(Refusal::Broken(fault)),
+        }
+    }
+}
+
+impl KeepingSink for Filling {
+    fn add_given(
+        &mut self,
+        cells: &Cells<'_>,
+        tags: GivenTags<'_>,
+        currency: Currency,
+    ) -> Result<(), Refusal> {
+        match view_of(cells, currency, &mut self.periods) {
+            Ok(row) => add_given(&mut self.columns, &row, cells, tags),
             Err(fault) => Err(Refusal::Broken(fault)),
         }
     }

@@ -1,31 +1,35 @@
--- What is known of texts of tags and of kept columns.
-use Rattle.std.proofs.Common.{◌≡◌, ◌<◌, ◌++◌, ◌∷◌, ℕ, List, [], length, map, get_or, Option, Some, String, Global, string_bytes, option_map, sym, ap, subst, ◌∙◌}
-use Rattle.std.specs.Prelude.{All, slice_index_or}
-use Rattle.std.proofs.lemmas.List.{get_or-map}
-use Rattle.std.proofs.lemmas.List.Elements.{All-push}
-use Rattle.fw_rows.specs.Keeping.{IsKnown, KeptAs, KeptOrNot}
+-- The tags of a text of tags with those of kept columns.
+use Rattle.std.proofs.Common.{◌≡◌, ◌∙◌, ℕ, List, Result, Ok, Err, ap, refl, subst, sym, unwrap_or}
+use Rattle.std.specs.Prelude.{All, Any, IfOk, IsSome, IsUtf8}
+use Rattle.fw_charge.specs.Tags.{TagText, value_under}
+use Rattle.fw_rows.specs.Keeping.{AreTheTags, IsWith, KeptAs}
 use Rattle.fw_rows.specs.Keeps.{KeepText}
-use Rattle.fw_rows.specs.declared.kept_texts.KeptText.{KeptText}
+use Rattle.fw_rows.specs.Kept.{tags_kept, with_tags}
+use Rattle.fw_rows.specs.Parts.{TagsAnswer}
+use Rattle.fw_rows.specs.declared.fault.Refusal.{Refusal}
+use Rattle.fw_rows.specs.declared.kept_tags.KeptTags.{KeptTags}
+use Rattle.fw_rows.specs.declared.kept_tags.KeptTags.TheVariants as kept
 
--- what is known at a place
-pub kept_at : (keeps : List KeepText) (known : List KeptText) (place : ℕ) (e : KeptText) (tags : List ℕ) (texts : List (List ℕ)) → place < length known → e ≡ get_or known place e → All (IsKnown keeps) known
-    → string_bytes e.tags ≡ tags → map string_bytes e.values.items ≡ texts → KeptAs keeps tags texts (slice_index_or (map (λ (k : KeptText). string_bytes k.text) known) place [])
-kept_at keeps known place e tags texts lt at all same_tags same_texts =
-    let here : IsKnown keeps e = subst (IsKnown keeps) (sym at) (all place e lt) in
-    let text : string_bytes e.text ≡ get_or (map (λ (k : KeptText). string_bytes k.text) known) place [] =
-    ap (λ (k : KeptText). string_bytes k.text) at ∙ sym (get_or-map (λ (k : KeptText). string_bytes k.text) known place e [] lt) in
-    subst (λ t. KeptAs keeps tags texts t) text
-    (subst (λ ts. KeptAs keeps tags ts (string_bytes e.text)) same_texts
-    (subst (λ t. KeptAs keeps t (map string_bytes e.values.items) (string_bytes e.text)) same_tags here))
+module _ (keeps : List KeepText) (text : List ℕ) (texts : List (List ℕ)) (stated added : List TagText) (is : added ≡ tags_kept keeps texts) (utf8 : All IsUtf8 texts)
+    (free : ¬ Any (λ tag. IsSome (value_under tag.key stated)) added) (states : TagsAnswer text (Ok stated)) where
+  all_kept : (all : List TagText) → all ≡ with_tags added stated → KeptAs keeps text texts all
+  all_kept all with = record {
+    utf8 = utf8;
+    free = λ twice.
+        let same : twice.0 ≡ stated = ap (λ o. unwrap_or o stated) (sym twice.1.0 ∙ states.0) in
+        free (subst (λ ts. Any (λ tag. IsSome (value_under tag.key stated)) ts) (sym is) (subst (λ ts. Any (λ tag. IsSome (value_under tag.key ts)) (tags_kept keeps texts)) same twice.2));
+    stated = stated;
+    states = states;
+    with = with ∙ ap (λ ts. with_tags ts stated) is;
+  }
 
--- what is known of one text more
-pub known_new : (keeps lent : List KeepText) (tags : List ℕ) (values : List (String Global)) (found : Option (String Global)) (new : KeptText) → lent ≡ keeps → values ≡ new.values.items
-    → string_bytes new.tags ≡ tags → found ≡ Some new.text → KeptOrNot lent tags (map string_bytes values) (option_map string_bytes found) → IsKnown keeps new
-known_new keeps lent tags values found new same_keeps same_values same_tags is or_not =
-    let one = subst (λ ks. KeptOrNot ks tags (map string_bytes values) (option_map string_bytes found)) same_keeps or_not in
-    let two = subst (λ vs. KeptOrNot keeps tags (map string_bytes vs) (option_map string_bytes found)) same_values one in
-    let three : KeptAs keeps tags (map string_bytes new.values.items) (string_bytes new.text) = subst (λ o. KeptOrNot keeps tags (map string_bytes new.values.items) (option_map string_bytes o)) is two in
-    subst (λ t. KeptAs keeps t (map string_bytes new.values.items) (string_bytes new.text)) (sym same_tags) three
+  pub the_tags : (kept : KeptTags) → IsWith (with_tags added stated) kept → AreTheTags keeps text texts kept
+  the_tags kept.Unstated with = absurd with
+  the_tags (kept.These all) with = (all_kept all with.0, with.1)
+  the_tags kept.TooLong with = (with_tags added stated, all_kept (with_tags added stated) refl, with.0, with.1)
 
-pub known_more : (keeps : List KeepText) (known more : List KeptText) (new : KeptText) → All (IsKnown keeps) known → IsKnown keeps new → more ≡ known ++ new ∷ [] → All (IsKnown keeps) more
-known_more keeps known more new all is same = subst (λ ks. All (IsKnown keeps) ks) (sym same) (All-push (IsKnown keeps) known new all is)
+-- what was found under equal keeps, for a text that states the tags
+pub found_of : (keeps lent : List KeepText) (tags : List ℕ) (texts : List (List ℕ)) (stated : List TagText) (r : Result KeptTags Refusal) → lent ≡ keeps → TagsAnswer tags (Ok stated)
+    → IfOk r (λ kept. (text : List ℕ) → TagsAnswer text (Ok stated) → AreTheTags lent text texts kept) → IfOk r (λ kept. AreTheTags keeps tags texts kept)
+found_of keeps lent tags texts stated (Ok kept) same states found = subst (λ ks. AreTheTags ks tags texts kept) same (found tags states)
+found_of keeps lent tags texts stated (Err e) same states found = tt

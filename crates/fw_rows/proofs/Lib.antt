@@ -14,7 +14,9 @@ mod ShortFacts
 pub mod OneReading
 pub mod KeptFacts
 pub mod ObjectFacts
+pub mod KeptTagFacts
 pub mod PlaceFacts
 pub mod KeepingFacts
 pub mod KeptLaw
 pub mod KeeperFacts
+pub mod FirstFacts

@@ -2,7 +2,7 @@
 use Rattle.std.specs.Prelude.{ℕ, List}
 use Rattle.fw_rows.specs.Keeps.{KeepText}
 
--- the kept columns, and the texts of tags that came of them so far
+-- the kept columns, and the texts of tags so far, each with the texts of kept columns beside it
 pub record KeeperValue : Type 0 where
   pub keeps : List KeepText
-  pub texts : List (List ℕ)
+  pub texts : List (List ℕ × List (List ℕ))

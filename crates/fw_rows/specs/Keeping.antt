@@ -1,20 +1,24 @@
 -- How columns are kept as tags. The private functions of the reader cite it.
-use Rattle.std.specs.Prelude.{◌≡◌, ◌≢◌, ◌⊎◌, ℕ, List, [], ◌∷◌, map, All, Any, Option, Some, None, Result, Ok, Err, IsUtf8, string_bytes, unwrap_or}
-use Rattle.serde_json.specs.Data as json
+use Rattle.std.specs.Prelude.{◌≡◌, ◌⊎◌, ◌<◌, ℕ, List, [], length, map, slice_index_or, All, Any, Option, Some, None, Result, Ok, Err, IsUtf8, ⊤}
+use Rattle.std.specs.Cmp.Lexicographic.{slice_cmp}
+use Rattle.std.specs.List.Sorted.{IsStrictlySortedBy}
+use Rattle.std.specs.Ordering.{nat_cmp}
 use Rattle.fw_charge.specs.Charge.{Charge}
-use Rattle.fw_charge.specs.Tags.{TagText}
+use Rattle.fw_charge.specs.Tags.{TagText, IsTags}
 use Rattle.fw_rules.specs.Table.{FirstBroken, NoneBroken}
 use Rattle.fw_rows.specs.Columns.{Record, text_at}
 use Rattle.fw_rows.specs.Keeps.{KeepText}
 use Rattle.fw_rows.specs.Kept.{AreKept, StatesKeyOf, StatesTags, kept_rules, name_place, tags_kept, with_tags}
-use Rattle.fw_rows.specs.Rules.{Texts, tags_stated, text_rules}
-use Rattle.fw_rows.specs.Sinks.{AddsRow}
-use Rattle.fw_rows.specs.declared.column.Column.{Column}
-use Rattle.fw_rows.specs.declared.column.Column.TheVariants as column
+use Rattle.fw_rows.specs.Rules.{Texts, text_rules}
+use Rattle.fw_rows.specs.Sinks.{AddsRow, row_tags}
+use Rattle.fw_tags.specs.Reading.{AreSized}
 use Rattle.fw_rows.specs.declared.fault.RecordFault.TheVariants as fault
 use Rattle.fw_rows.specs.declared.fault.Refusal.{Refusal}
 use Rattle.fw_rows.specs.declared.fault.Refusal.TheVariants as refusal
-use Rattle.fw_rows.specs.declared.kept_texts.KeptText.{KeptText}
+use Rattle.fw_rows.specs.declared.kept_tags.KeptTags.{KeptTags}
+use Rattle.fw_rows.specs.declared.kept_tags.KeptTags.TheVariants as kept
+use Rattle.fw_rows.specs.declared.kept_texts.Found.{Found}
+use Rattle.fw_rows.specs.declared.kept_texts.Found.TheVariants as found
 
 -- the places of kept columns in a header
 abbrev pub keep_places : List KeepText → Record → List (Option ℕ)
@@ -24,23 +28,45 @@ keep_places keeps header = map (λ keep. name_place header keep.column) keeps
 abbrev pub texts_at : Record → List (Option ℕ) → List (List ℕ)
 texts_at fields places = map (text_at fields) places
 
--- tags as the members of an object of JSON
-abbrev pub members_of_tags : List TagText → json.Members
-members_of_tags [] = json.no_members
-members_of_tags (tag ∷ tags) = json.member tag.key (json.string tag.value) (members_of_tags tags)
-
--- a text states the tags of a text of tags, and those of kept columns, none of which it states already
-pub record KeptAs (keeps : List KeepText) (tags : List ℕ) (texts : List (List ℕ)) (text : List ℕ) : Type 0 where
+-- tags are those of a text of tags, and those of kept columns, none of which it states already
+pub record KeptAs (keeps : List KeepText) (tags : List ℕ) (texts : List (List ℕ)) (all : List TagText) : Type 0 where
   pub utf8 : All IsUtf8 texts
   pub free : ¬ StatesKeyOf (tags_kept keeps texts) tags
   pub stated : List TagText
   pub states : StatesTags tags stated
-  pub with : tags_stated text ≡ Some (with_tags (tags_kept keeps texts) stated)
+  pub with : all ≡ with_tags (tags_kept keeps texts) stated
 
--- the same of what is kept, or the text of tags states no tags
-abbrev pub KeptOrNot : List KeepText → List ℕ → List (List ℕ) → Option (List ℕ) → Type 0
-KeptOrNot keeps tags texts (Some text) = KeptAs keeps tags texts text
-KeptOrNot keeps tags texts None = All IsUtf8 texts × ((stated : List TagText) → ¬ StatesTags tags stated)
+-- the keys rise in the order of their bytes
+abbrev pub KeysRise : List TagText → Type 0
+KeysRise tags = IsStrictlySortedBy (slice_cmp nat_cmp) (map (λ t. t.key) tags)
+
+-- tags as a row is given them: these, or none where they are too many or too long
+abbrev pub IsWith : List TagText → KeptTags → Type 0
+IsWith all kept.Unstated = ⊥
+IsWith all (kept.These tags) = (tags ≡ all) × IsTags tags
+IsWith all kept.TooLong = (¬ AreSized all) × KeysRise all
+
+-- the tags of a text of tags with those of kept columns, or that it states none
+abbrev pub AreTheTags : List KeepText → List ℕ → List (List ℕ) → KeptTags → Type 0
+AreTheTags keeps tags texts kept.Unstated = All IsUtf8 texts × ((stated : List TagText) → ¬ StatesTags tags stated)
+AreTheTags keeps tags texts (kept.These all) = KeptAs keeps tags texts all × IsTags all
+AreTheTags keeps tags texts kept.TooLong = (all : List TagText) × KeptAs keeps tags texts all × (¬ AreSized all) × KeysRise all
+
+-- where texts stand among those that are known
+abbrev pub IsFound : List (List ℕ × List (List ℕ)) → List ℕ × List (List ℕ) → Found → Type 0
+IsFound known texts (found.At place) = (place < length known) × (slice_index_or known place ([], []) ≡ texts)
+IsFound known texts (found.Nowhere hash) = ⊤
+
+-- a row has the tags of a text of tags and of kept columns
+pub record HasKept (keeps : List KeepText) (texts : List ℕ × List (List ℕ)) (place : ℕ) (rows : List Charge) : Type 0 where
+  pub within : place < length rows
+  pub tags : KeptAs keeps texts.0 texts.1 (row_tags rows place)
+  pub valid : IsTags (row_tags rows place)
+
+-- for texts that are known there is a row with their tags, where one is named
+abbrev pub AreFirsts : List KeepText → List (List ℕ × List (List ℕ)) → List (Option ℕ) → List Charge → Type 0
+AreFirsts keeps known firsts rows =
+    (k place : ℕ) → slice_index_or firsts k None ≡ Some place → (k < length known) × HasKept keeps (slice_index_or known k ([], [])) place rows
 
 -- why a record with kept columns is refused before its other rules are looked at
 abbrev pub Refuses : List KeepText → List ℕ → List (List ℕ) → Refusal → Type 0
@@ -48,15 +74,6 @@ Refuses keeps tags texts (refusal.Broken f) =
     ((f ≡ fault.NotUtf8) × Any (λ text. ¬ IsUtf8 text) texts)
     ⊎ ((f ≡ fault.TagTwice) × All IsUtf8 texts × StatesKeyOf (tags_kept keeps texts) tags)
 Refuses keeps tags texts refusal.NoMemory = Unit {0}
-
--- what is known of a text of tags and of texts of kept columns
-abbrev pub IsKnown : List KeepText → KeptText → Type 0
-IsKnown keeps known = KeptAs keeps (string_bytes known.tags) (map string_bytes known.values.items) (string_bytes known.text)
-
--- texts in which that of the tags is another one, if there is one
-pub record AreWithTags (texts : Texts) (text : Option (List ℕ)) (at : Texts) : Type 0 where
-  pub others : (c : Column) → c ≢ column.Tags → at c ≡ texts c
-  pub tags : at column.Tags ≡ unwrap_or text (texts column.Tags)
 
 -- what became of a record
 abbrev pub Judged : List ℕ → List KeepText → Record → Record → (old new : List Charge) → Result (Unit {0}) Refusal → Type 0

@@ -1,12 +1,10 @@
 //! The texts of a record in the columns that are read.
-ghost use Rattle.std.specs.Prelude.{◌≡◌, ◌≢◌, IsUtf8, MatchOption};
+ghost use Rattle.std.specs.Prelude.{◌≡◌, IsUtf8, MatchOption};
 ghost use Rattle.csv.specs.Records.{AllText, fields_of};
 ghost use Rattle.fw_rows.specs.Columns.{Record, text_at};
 ghost use Rattle.fw_rows.specs.Header.{ArePlaces};
 ghost use Rattle.fw_rows.specs.Parts.{AreCells, texts_of};
 ghost use Rattle.fw_rows.specs.Rules.{HasNonText};
-ghost use Rattle.fw_rows.specs.declared.column.Column.{Column as ColumnValue};
-ghost use Rattle.fw_rows.specs.declared.column.Column.TheVariants as column;
 
 use crate::column::{COUNT, Column};
 use crate::header::Places;
@@ -77,16 +75,5 @@ impl<'a> Cells<'a> {
         ensures { result.now ≡ texts_of self.now column }
     {
         self.texts[column.index()]
-    }
-
-    /// The same texts, but for that of the tags.
-    pub(crate) fn with_tags(&self, tags: &'a str) -> Cells<'a>
-        ensures others { (c : ColumnValue) → c ≢ column.Tags
-            → texts_of result c ≡ texts_of self.now c }
-        ensures tags { texts_of result column.Tags ≡ tags.now }
-    {
-        let mut texts = self.texts;
-        texts[Column::Tags.index()] = tags;
-        Cells { texts }
     }
 }

@@ -1,18 +1,19 @@
-//! The texts of tags with those of kept columns added.
-ghost use Rattle.std.specs.Prelude.{◌≡◌, ◌<◌, [], All, length, map, slice_index_or, option_map, IfErr, IfOk, IfSome, IsTrue, IsUtf8, string_bytes};
+//! What is known of texts of tags beside those of kept columns.
+ghost use Rattle.std.specs.Prelude.{◌≡◌, ◌<◌, ◌++◌, ◌∷◌, [], All, length, map, slice_index_or, IfErr, IfOk, IsTrue, IsUtf8, OnOk, string_bytes};
 ghost use Rattle.csv.specs.Records.{fields_of};
-ghost use Rattle.fw_rows.specs.Kept.{StatesKeyOf, tags_kept};
-ghost use Rattle.fw_rows.specs.Keeping.{KeptAs, KeptOrNot, Refuses, keep_places, texts_at};
-ghost use Rattle.fw_rows.specs.declared.fault.Refusal.TheVariants.{Broken};
+ghost use Rattle.fw_rows.specs.Keeping.{AreTheTags, IsFound, Refuses, keep_places, texts_at};
 
-use crate::fault::{RecordFault, Refusal};
+use crate::cells::field_at;
+use crate::fault::Refusal;
 use crate::keep::Keep;
-use crate::kept_object::{have_key_of, object_text, tags_kept, tags_of};
-use crate::kept_places::{are_at, keep_places, texts_at};
+use crate::kept_places::{are_at, keep_places};
+use crate::kept_tags::{KeptTags, add_kept, tags_of};
+use crate::known::KnownTags;
 use csv::ByteRecord;
 use fw_tags::TagFault;
 use indexmap::IndexMap;
 use std::alloc::{AllocError, Global};
+use std::hash::{FoldHasher, Hasher};
 use std::marker::Model;
 
 /// The most texts that are known from one text of charges to the next.
@@ -21,12 +22,11 @@ const MOST_KNOWN: usize = 16_384;
 /// The most bytes that these may have together.
 const MOST_BYTES: usize = 16_777_216;
 
-/// A text of tags, the texts of kept columns beside it, and the text that states all of them.
+/// A text of tags, and the texts of kept columns beside it.
 #[derive(Drop)]
 pub(crate) struct KeptText {
     pub(crate) tags: String,
     pub(crate) values: Vec<String>,
-    pub(crate) text: String,
 }
 
 impl KeptText {
@@ -40,19 +40,30 @@ impl KeptText {
     }
 }
 
-/// Columns that are kept as tags, and what is known of the texts of tags that come of it. Rows mostly share a few texts
-/// of tags and of kept columns, and these come in about the same order in each hour: so most are found by a comparison
-/// with those that followed the row before. None of it has an effect on what a text of charges reads as.
+/// Where a text of tags stands with the texts of kept columns beside it.
+#[derive(Clone, Copy, Drop)]
+pub(crate) enum Found {
+    /// At a place.
+    At(usize),
+    /// Nowhere. They have this hash.
+    Nowhere(u64),
+}
+
+/// Columns that are kept as tags, and what is known of texts of tags. Rows mostly share a few texts of tags and of kept
+/// columns, and these come in about the same order in each hour: so most are found by a comparison with those that
+/// followed the row before. None of it has an effect on what a text of charges reads as.
 ///
-/// A contract sees the columns, and the texts.
+/// A contract sees the columns, and the texts of tags, each with the texts of kept columns beside it.
 pub struct Keeper {
     keeps: Vec<Keep>,
+    // the tags of texts of tags
+    read: KnownTags,
     known: Vec<KeptText>,
-    // where each is, by its texts
-    places: IndexMap<String, usize>,
+    // where each is, by its hash
+    places: IndexMap<u64, usize>,
     // where that of the next record may be
     next: usize,
-    // how many bytes they have together
+    // how many bytes these have together, and those whose tags were read
     bytes: usize,
 }
 
@@ -60,6 +71,7 @@ impl Drop for Keeper {
     fn drop(self) {
         let Self {
             keeps: _,
+            read: _,
             known: _,
             places: _,
             next: _,
@@ -69,15 +81,15 @@ impl Drop for Keeper {
 }
 
 impl Model for Keeper {
-    ghost use Rattle.std.specs.Prelude.{All, map, string_bytes};
+    ghost use Rattle.std.specs.Prelude.{map, string_bytes};
     ghost use Rattle.fw_rows.specs.Keepers.{KeeperValue};
-    ghost use Rattle.fw_rows.specs.Keeping.{IsKnown};
 
     ghost Value = { KeeperValue };
 
-    ghost view = { λ k. record { keeps = k.keeps.items; texts = map (λ e. string_bytes e.text) k.known.items } };
-
-    ghost invariant = { λ k. All (IsKnown k.keeps.items) k.known.items };
+    ghost view = { λ k. record {
+      keeps = k.keeps.items;
+      texts = map (λ e. (string_bytes e.tags, map string_bytes e.values.items)) k.known.items;
+    } };
 }
 
 impl Keeper {
@@ -87,6 +99,7 @@ impl Keeper {
     {
         Keeper {
             keeps,
+            read: KnownTags::new(alloc),
             known: Vec::new(alloc),
             places: IndexMap::new(alloc),
             next: 0,
@@ -112,6 +125,7 @@ impl Keeper {
         ensures same { self.new.keeps ≡ self.old.keeps }
     {
         if self.known.len() > MOST_KNOWN || self.bytes > MOST_BYTES {
+            self.read = KnownTags::new(alloc);
             self.known = Vec::new(alloc);
             self.places = IndexMap::new(alloc);
             self.bytes = 0;
@@ -120,134 +134,122 @@ impl Keeper {
         keep_places(alloc, header, self.keeps.as_slice())
     }
 
-    /// The text at a place.
-    pub(crate) fn text(&self, place: usize) -> &str
-        requires { place < length self.now.texts }
-        ensures { result.now ≡ slice_index_or self.now.texts place [] }
+    /// How many texts are known.
+    pub(crate) fn len(&self) -> usize
+        ensures { result ≡ length self.now.texts }
     {
-        self.known[place].text.as_str()
+        self.known.len()
     }
 
-    /// The place of the text that states the tags of a text, and those that the texts of a record at places are; `None`
-    /// where the text states no tags.
-    ///
-    /// # Errors
-    /// `NotUtf8` where one of the texts is not UTF-8, `TagTwice` where the text states one of these tags already;
-    /// `NoMemory`.
-    #[tactic(auto, using(crate::proofs::PlaceFacts::texts_utf8))]
-    pub(crate) fn place(
+    /// Where a text of tags stands with the texts of a record at places.
+    pub(crate) fn find(
         &mut self,
-        alloc: Global,
         tags: &str,
         fields: &ByteRecord,
         places: &[Option<usize>],
-    ) -> Result<Option<usize>, Refusal>
-        ensures found { IfOk result (λ place. KeptOrNot self.old.keeps tags.now
-            (texts_at (fields_of fields.now) places.now)
-            (option_map (λ p. slice_index_or self.new.texts p []) place)) }
-        ensures within { IfOk result (λ place. IfSome place (λ p. p < length self.new.texts)) }
-        ensures refused { IfErr result (λ refusal. Refuses self.old.keeps tags.now
-            (texts_at (fields_of fields.now) places.now) refusal) }
-        ensures same { self.new.keeps ≡ self.old.keeps }
+    ) -> Found
+        ensures found { IsFound self.new.texts
+            (tags.now, texts_at (fields_of fields.now) places.now) result }
+        ensures same { self.new ≡ self.old }
     {
         let next = self.next;
         if self.is_at(next, tags, fields, places) {
             self.next = next.saturating_add(1);
-            return Ok(Some(next));
+            return Found::At(next);
         }
-        let Some(values) = texts_at(alloc, fields, places)? else {
-            return Err(Refusal::Broken(RecordFault::NotUtf8));
-        };
-        let key = key_of(alloc, tags, values.as_slice())?;
-        if let Some(place) = self.places.get(key.as_str()).copied() {
+        let hash = hash_of(tags, fields, places);
+        if let Some(place) = self.places.get(&hash).copied() {
             if self.is_at(place, tags, fields, places) {
                 self.next = place.saturating_add(1);
-                return Ok(Some(place));
+                return Found::At(place);
             }
         }
-        self.note(alloc, key, tags, values)
+        Found::Nowhere(hash)
     }
 
-    // Whether the text at a place is of a text of tags and of the texts of a record at places.
+    // Whether the text at a place is one of tags, with the texts of a record at places beside it.
     fn is_at(&self, place: usize, tags: &str, fields: &ByteRecord, places: &[Option<usize>]) -> bool
-        ensures kept { IsTrue result → KeptAs self.now.keeps tags.now
-            (texts_at (fields_of fields.now) places.now)
-            (slice_index_or self.now.texts place []) }
         ensures within { IsTrue result → place < length self.now.texts }
+        ensures there { IsTrue result → slice_index_or self.now.texts place ([], [])
+            ≡ (tags.now, texts_at (fields_of fields.now) places.now) }
     {
-        let known = self.known.as_slice();
-        if place >= known.len() {
+        if place >= self.known.len() {
             return false;
         }
-        known[place].is(tags, fields, places)
+        self.known[place].is(tags, fields, places)
     }
 
-    // Notes the text that states the tags of a text, and those that texts of kept columns are. The answer is its place.
-    #[tactic(auto, using(crate::proofs::PlaceFacts::texts_utf8))]
-    fn note(
+    /// Notes a text of tags and the texts of kept columns beside it, which have a hash. Returns their place, behind all
+    /// others.
+    pub(crate) fn note(
         &mut self,
         alloc: Global,
-        key: String,
+        hash: u64,
         tags: &str,
         values: Vec<String>,
-    ) -> Result<Option<usize>, Refusal>
-        requires { All IsUtf8 (map string_bytes values.items) }
-        ensures found { IfOk result (λ place. KeptOrNot self.old.keeps tags.now
-            (map string_bytes values.items)
-            (option_map (λ p. slice_index_or self.new.texts p []) place)) }
-        ensures within { IfOk result (λ place. IfSome place (λ p. p < length self.new.texts)) }
-        ensures refused { IfErr result (λ refusal. Refuses self.old.keeps tags.now
-            (map string_bytes values.items) refusal) }
+    ) -> Result<usize, AllocError>
+        ensures place { IfOk result (λ place. place ≡ length self.old.texts) }
+        ensures texts { OnOk result (self.new.texts
+            ≡ self.old.texts ++ (tags.now, map string_bytes values.items) ∷ []) }
         ensures same { self.new.keeps ≡ self.old.keeps }
     {
-        let Some(text) = text_with(alloc, self.keeps.as_slice(), tags, values.as_slice())? else {
-            return Ok(None);
-        };
         let place = self.known.len();
         let tags = String::from_str(alloc, tags)?;
-        let bytes = key
-            .len()
-            .saturating_add(tags.len())
-            .saturating_add(text.len());
-        self.places.insert(key, place)?;
-        self.known.push(KeptText { tags, values, text })?;
+        let bytes = bytes_of(tags.as_str(), values.as_slice());
+        self.places.insert(hash, place)?;
+        self.known.push(KeptText { tags, values })?;
         self.bytes = self.bytes.saturating_add(bytes);
         self.next = place.saturating_add(1);
-        Ok(Some(place))
+        Ok(place)
+    }
+
+    /// The tags of a text of tags, with those that texts of kept columns are.
+    ///
+    /// # Errors
+    /// `TagTwice` where the text states one of these tags already; `NoMemory`.
+    pub(crate) fn tags_with(
+        &mut self,
+        alloc: Global,
+        tags: &str,
+        values: &[String],
+    ) -> Result<KeptTags, Refusal>
+        requires { All IsUtf8 (map string_bytes values.now) }
+        ensures found { IfOk result (λ kept. AreTheTags self.old.keeps tags.now
+            (map string_bytes values.now) kept) }
+        ensures refused { IfErr result (λ refusal. Refuses self.old.keeps tags.now
+            (map string_bytes values.now) refusal) }
+        ensures same { self.new ≡ self.old }
+    {
+        if let Some(stated) = self.read.get(tags) {
+            return add_kept(alloc, stated, self.keeps.as_slice(), values);
+        }
+        let stated = match tags_of(alloc, tags) {
+            Ok(stated) => stated,
+            Err(TagFault::NoMemory) => return Err(Refusal::NoMemory),
+            Err(_) => return Ok(KeptTags::Unstated),
+        };
+        let kept = add_kept(alloc, &stated, self.keeps.as_slice(), values)?;
+        self.read.note(tags, stated)?;
+        self.bytes = self.bytes.saturating_add(tags.len());
+        Ok(kept)
     }
 }
 
-// By what texts are found: mostly others have another key, and where they don't, they are compared.
-fn key_of(alloc: Global, tags: &str, values: &[String]) -> Result<String, AllocError> {
-    let mut key = String::from_str(alloc, tags)?;
+// A hash of a text of tags and of the texts of a record at places.
+fn hash_of(tags: &str, fields: &ByteRecord, places: &[Option<usize>]) -> u64 {
+    let mut hasher = FoldHasher::default();
+    hasher.write(tags.as_bytes());
+    for place in places {
+        hasher.write(field_at(fields, *place));
+    }
+    hasher.finish()
+}
+
+// How many bytes texts have.
+fn bytes_of(tags: &str, values: &[String]) -> usize {
+    let mut bytes = tags.len();
     for value in values {
-        key.push_str("\n")?;
-        key.push_str(value.as_str())?;
+        bytes = bytes.saturating_add(value.len());
     }
-    Ok(key)
-}
-
-// The text that states the tags of a text, and those that texts of kept columns are; `None` where it states no tags.
-fn text_with(
-    alloc: Global,
-    keeps: &[Keep],
-    tags: &str,
-    values: &[String],
-) -> Result<Option<String>, Refusal>
-    requires { All IsUtf8 (map string_bytes values.now) }
-    ensures found { IfOk result (λ text. KeptOrNot keeps.now tags.now
-        (map string_bytes values.now) (option_map string_bytes text)) }
-    ensures refused { IfErr result (λ refusal. Refuses keeps.now tags.now
-        (map string_bytes values.now) refusal) }
-{
-    let stated = match tags_of(alloc, tags) {
-        Ok(stated) => stated,
-        Err(TagFault::NoMemory) => return Err(Refusal::NoMemory),
-        Err(_) => return Ok(None),
-    };
-    let added = tags_kept(alloc, keeps, values)?;
-    if have_key_of(&stated, added.as_slice()) {
-        return Err(Refusal::Broken(RecordFault::TagTwice));
-    }
-    Ok(Some(object_text(alloc, &stated, added.as_slice())?))
+    bytes
 }

@@ -1,17 +1,17 @@
 //! What the rows of a text go into.
-ghost use Rattle.std.specs.Prelude.{◌<◌, ◌++◌, [], ◌∷◌, ◌≡◌, List, length, OnOk};
+ghost use Rattle.std.specs.Prelude.{◌<◌, ◌++◌, [], ◌∷◌, ◌≡◌, ℕ, List, length, OnOk};
 ghost use Rattle.fw_charge.specs.Charge.{Charge};
 ghost use Rattle.fw_rows.specs.Judged.{JudgedWithin};
 ghost use Rattle.fw_rows.specs.Parts.{texts_of};
 ghost use Rattle.fw_rows.specs.Rows.{most_rows};
 ghost use Rattle.fw_rows.specs.Rules.{text_rules};
-ghost use Rattle.fw_rows.specs.Sinks.{AddsRow};
+ghost use Rattle.fw_rows.specs.Sinks.{AddsRow, CanGive, StatesGiven, with_text};
 
 use crate::cells::Cells;
 use crate::charged::PeriodReaders;
 use crate::fault::Refusal;
 use crate::known::KnownTags;
-use fw_charge::{Currency, Row};
+use fw_charge::{Currency, Row, Tags};
 use std::alloc::Global;
 
 /// What the rows of a text go into, in order, as they are read. Once it has refused a record, nothing is known of it.
@@ -30,6 +30,37 @@ pub trait RowSink {
             in JudgedWithin (text_rules currency at)
             (λ _. AddsRow at (rows self.old) (rows self.new)) result }
         ensures ready { OnOk result (is_ready self.new) };
+}
+
+/// Tags that a row is given in place of those that its text of tags states.
+#[derive(Clone, Copy, Drop)]
+pub enum GivenTags<'a> {
+    /// Those of the row at a place, counted from 0.
+    Like(usize),
+    /// These.
+    These(&'a Tags),
+    /// More tags, or longer ones, than a row may have.
+    TooLong,
+}
+
+/// What the rows of a text go into where columns are kept as tags.
+pub trait KeepingSink: RowSink {
+    /// Adds the row that a record stands for, as [`RowSink::add`] does, with given tags in place of those that its text of tags states. That text isn't
+    /// read: the row is that of the record with any text there that states the given tags.
+    fn add_given(
+        &mut self,
+        cells: &Cells<'_>,
+        tags: GivenTags<'_>,
+        currency: Currency,
+    ) -> Result<(), Refusal>
+        requires ready { Self.is_ready self.old }
+        requires room { length (Self.rows self.old) < most_rows }
+        requires given { CanGive (Self.rows self.old) tags }
+        ensures row { (text : List ℕ) → StatesGiven (Self.rows self.old) tags.entry text
+            → let at = with_text (texts_of cells.now) text
+            in JudgedWithin (text_rules currency at)
+            (λ _. AddsRow at (Self.rows self.old) (Self.rows self.new)) result }
+        ensures ready { OnOk result (Self.is_ready self.new) };
 }
 
 /// Rows, and what was read for them: the tags of texts, and the last period.

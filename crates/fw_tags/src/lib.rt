@@ -5,4 +5,4 @@ mod fault;
 mod reading;
 
 pub use fault::TagFault;
-pub use reading::read_tags;
+pub use reading::{are_sized, read_tags};

@@ -95,7 +95,7 @@ fn text_of(alloc: Global, value: Value) -> Result<Option<String>, AllocError>
 }
 
 /// Whether the tags are no more than the greatest number, and none of their keys and values is too long.
-fn are_sized(tags: &[Tag]) -> bool
+pub fn are_sized(tags: &[Tag]) -> bool
     ensures { IsTrue result ↔ AreSized tags.now }
 {
     tags.len() <= Tags::MOST
