@@ -59,7 +59,7 @@ class UnderAPolicy(OneFolder):
             self.assertEqual(self.report(*asked)[1], body_of(stored), "the warehouse is as it was")
             status, printed, said = self.report(*asked, "--policy", "-", given=text.encode())
             self.assertEqual((status, printed), (0, body_of(under)))
-            self.assertEqual(said, "costs are shared by the policy for the tag team: the one of the file -\n")
+            self.assertEqual(said, "costs are shared by the policy for the tag team: the one of standard input\n")
 
     def test_the_stored_policy_gives_the_stored_report(self):
         text = ENTRIES[10].split("\n", 1)[1]
