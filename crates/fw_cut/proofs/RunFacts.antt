@@ -1,11 +1,11 @@
 -- What bytes do that end no record.
-use Rattle.std.proofs.Common.{◌≡◌, ◌≢◌, ◌<◌, ◌+◌, ◌==◌, ℕ, suc, List, [], ◌∷◌, ◌++◌, All, false, take, length, get_or, refl, ap, ◌∙◌, arith, inl, inr}
+use Rattle.std.proofs.Common.{◌≡◌, ◌≢◌, ◌<◌, ◌+◌, ◌==◌, ◌||◌, ◌&&◌, not, ℕ, suc, List, [], ◌∷◌, ◌++◌, All, Bool, true, false, take, length, get_or, refl, ap, ◌∙◌, arith, inl, inr}
 use Rattle.std.proofs.lemmas.Bool.{cases_Bool, eqb-true}
 use Rattle.std.proofs.lemmas.List.{take_more}
 use Rattle.csv.specs.Machine.{Feeds, step, is_end, fields_after, field_after}
 use Rattle.csv.specs.Reading.{default_config}
 use Rattle.csv.proofs.ReadFacts.{feeds-push}
-use Rattle.fw_cut.specs.Places.{state_of, GoesOn, IsPlain, place_of, place_behind}
+use Rattle.fw_cut.specs.Places.{state_of, GoesOn, IsPassed, IsPassedBut, IsPlain, place_of, place_behind}
 use Rattle.fw_cut.specs.declared.place.Place.{Place}
 use Rattle.fw_cut.specs.declared.place.Place.TheVariants as place
 
@@ -89,3 +89,36 @@ quoted-pair text i lt first second so =
     let two = ap (λ k. take k text) count ∙ take_more text (i + 1) 0 lt in
     let half : GoesOn place.Quoted (take (i + 1) text) place.AfterQuote = rw (one, first) (goes-push place.Quoted place.Quoted place.AfterQuote (take i text) 34 so (refl, refl)) in
     rw (two, second) (goes-push place.Quoted place.AfterQuote place.Quoted (take (i + 1) text) 34 half (refl, refl))
+
+-- whether just one of two is so
+abbrev pub is_one : Bool → Bool → Bool
+is_one a d = (a && not d) || (not a && d)
+
+-- a further byte is passed, where it is no quote or just one other quote stands beside it; a, b and d say whether there are quotes
+more : (text : List ℕ) (n : ℕ) (a b d : Bool) → n + 1 < length text → (a ≡ true → get_or text n 0 ≡ 34)
+    → (b ≡ true → get_or text (n + 1) 0 ≡ 34) → (b ≡ false → get_or text (n + 1) 0 ≢ 34)
+    → IsPassedBut text n (a && b) → (b && not (is_one a d)) ≡ false → IsPassedBut text (n + 1) (b && d)
+more text n true false d lt first is isnt so e = quoted-more text (n + 1) lt (isnt refl) so
+more text n false false d lt first is isnt so e = quoted-more text (n + 1) lt (isnt refl) so
+more text n true true true lt first is isnt so e = absurd (cc e)
+more text n true true false lt first is isnt so e =
+    let count : n + 2 ≡ n + 1 + 1 = omega arith in rw count at (quoted-pair text n lt (first refl) (is refl) so)
+more text n false true true lt first is isnt so e = so
+more text n false true false lt first is isnt so e = absurd (cc e)
+
+pub passed-more : (text : List ℕ) (n m : ℕ) → m ≡ n + 1 + 1 → n + 1 < length text
+    → (get_or text (n + 1) 0 == 34 && not (is_one (get_or text n 0 == 34) (get_or text m 0 == 34))) ≡ false → IsPassed text n → IsPassed text (n + 1)
+passed-more text n m count lt e so =
+    let at : get_or text m 0 ≡ get_or text (n + 1 + 1) 0 = ap (λ k. get_or text k 0) count in
+    more text n (get_or text n 0 == 34) (get_or text (n + 1) 0 == 34) (get_or text (n + 1 + 1) 0 == 34) lt
+    (λ q. eqb-true (get_or text n 0) 34 q) (λ q. eqb-true (get_or text (n + 1) 0) 34 q) (λ q is. cc (q, is)) so (rw at at e)
+
+-- a byte that is no quote is passed
+pub passed-one : (text : List ℕ) (n : ℕ) → n < length text → get_or text n 0 ≢ 34 → GoesOn place.Quoted (take n text) place.Quoted → IsPassed text n
+passed-one text n lt h so =
+    let no : (get_or text n 0 == 34) ≡ false = is-not (get_or text n 0) 34 h in
+    rw no (quoted-more text n lt h so)
+
+pub neither : (a b : Bool) → (a || b) ≡ false → (a ≡ false) × (b ≡ false)
+neither true b e = absurd (cc e)
+neither false b e = (refl, e)

@@ -1,5 +1,5 @@
 -- The places between two bytes as states of the csv crate's machine.
-use Rattle.std.specs.Prelude.{◌≡◌, ◌≢◌, ◌⊎◌, ◌==◌, if◌then◌else◌, ℕ, List, [], ◌∷◌, true, false}
+use Rattle.std.specs.Prelude.{◌≡◌, ◌≢◌, ◌⊎◌, ◌+◌, ◌==◌, ◌&&◌, if◌then◌else◌, ℕ, Bool, List, [], ◌∷◌, true, false, get_or, take}
 use Rattle.csv.specs.Machine.{Feeds, is_end}
 use Rattle.csv.specs.Reading.{default_config}
 use Rattle.csv.specs.declared.parser.Action.{Action}
@@ -42,3 +42,15 @@ place_of c = if c == 44 then place.Field else place.Plain
 unfoldable pub place_behind : Place → List ℕ → Place
 place_behind p [] = p
 place_behind p (c ∷ rest) = place_behind (place_of c) rest
+
+-- how many bytes within quotes are looked at together
+abbrev pub block : ℕ
+block = 32
+
+-- the bytes up to a place are passed within quotes, but for the one there where it is a quote that another follows
+abbrev pub IsPassedBut : List ℕ → ℕ → Bool → Type 0
+IsPassedBut text last true = GoesOn place.Quoted (take last text) place.Quoted
+IsPassedBut text last false = GoesOn place.Quoted (take (last + 1) text) place.Quoted
+
+abbrev pub IsPassed : List ℕ → ℕ → Type 0
+IsPassed text last = IsPassedBut text last (get_or text last 0 == 34 && get_or text (last + 1) 0 == 34)

@@ -1,8 +1,8 @@
 //! Where a reader of records stands between two bytes of a text.
-ghost use Rattle.std.specs.Prelude.{◌≡◌, ◌≤◌, true, false, All, length, take};
+ghost use Rattle.std.specs.Prelude.{◌≡◌, ◌≤◌, ◌<◌, ◌+◌, true, false, All, IsTrue, length, take};
 ghost use Rattle.csv.specs.Machine.{in_field, start_field, start_record, step};
 ghost use Rattle.csv.specs.Reading.{default_config};
-ghost use Rattle.fw_cut.specs.Places.{state_of, place_behind, Does, GoesOn, IsPlain};
+ghost use Rattle.fw_cut.specs.Places.{block, state_of, place_behind, Does, GoesOn, IsPassed, IsPlain};
 ghost use Rattle.fw_cut.specs.declared.place.Place.TheVariants.{Quoted};
 
 use memchr::memchr3;
@@ -180,6 +180,30 @@ fn quoted_len(text: &[u8]) -> usize
 {
     let mut at = 0;
     while at < text.len() {
+        let passed = blocks_end(text, at);
+        let behind = bytes_end(text, passed);
+        if behind == at {
+            return at;
+        }
+        at = behind;
+    }
+    at
+}
+
+/// How many bytes within quotes are looked at together.
+const BLOCK: usize = 32;
+
+// Where bytes within quotes end that are passed one by one: before the quote that closes the field, and where that is far behind a block's bytes or more.
+fn bytes_end(text: &[u8], from: usize) -> usize
+    requires within { from ≤ length text.now }
+    requires goes { GoesOn Quoted (take from text.now) Quoted }
+    ensures from { from ≤ result }
+    ensures within { result ≤ length text.now }
+    ensures goes { GoesOn Quoted (take result text.now) Quoted }
+{
+    let end = text.len().min(from.saturating_add(BLOCK));
+    let mut at = from;
+    while at < end {
         if text[at] != QUOTE {
             at += 1;
         } else if at + 1 < text.len() && text[at + 1] == QUOTE {
@@ -189,4 +213,56 @@ fn quoted_len(text: &[u8]) -> usize
         }
     }
     at
+}
+
+// Where blocks of bytes within quotes end in which each quote has just one other beside it.
+fn blocks_end(text: &[u8], from: usize) -> usize
+    requires within { from ≤ length text.now }
+    requires goes { GoesOn Quoted (take from text.now) Quoted }
+    ensures from { from ≤ result }
+    ensures within { result ≤ length text.now }
+    ensures goes { GoesOn Quoted (take result text.now) Quoted }
+{
+    if text.len() - from < 2 || text[from] == QUOTE {
+        return from;
+    }
+    let mut last = from;
+    while last + BLOCK + 1 < text.len() {
+        if !has_pairs(text, last) {
+            return pairs_end(text, last);
+        }
+        last += BLOCK;
+    }
+    pairs_end(text, last)
+}
+
+// Whether each quote among the bytes behind a place, as many as a block has, has just one other beside it. Then quotes stand in pairs, and none closes a
+// field. No byte is branched on, so many are looked at together, wherever quotes stand.
+#[inline(always)]
+fn has_pairs(text: &[u8], last: usize) -> bool
+    requires { last + block + 1 < length text.now }
+    ensures { IsTrue result → IsPassed text.now last → IsPassed text.now (last + block) }
+{
+    let mut has_other = false;
+    for index in last..last + BLOCK {
+        let is_quote = text[index + 1] == QUOTE;
+        let (before, behind) = (text[index] == QUOTE, text[index + 2] == QUOTE);
+        has_other |= is_quote & !((before & !behind) | (!before & behind));
+    }
+    !has_other
+}
+
+// Where bytes end that are passed surely, if those up to a place are: before the quote there, if it is the first of a pair.
+fn pairs_end(text: &[u8], last: usize) -> usize
+    requires within { last + 1 < length text.now }
+    requires passed { IsPassed text.now last }
+    ensures from { last ≤ result }
+    ensures within { result ≤ length text.now }
+    ensures goes { GoesOn Quoted (take result text.now) Quoted }
+{
+    if text[last] == QUOTE && text[last + 1] == QUOTE {
+        last
+    } else {
+        last + 1
+    }
 }
