@@ -111,6 +111,16 @@ class UnderAPolicy(OneFolder):
         self.assertEqual((status, printed), (1, ""))
         self.assertIn("none.toml", said)
 
+    def test_a_wrong_command_line_is_found_before_the_file_is_read(self):
+        missing = self.room / "none.toml"
+        for words in ((), ("--tag", "team", "--tag", "env"), ("--total-only",), ("--tag", "team", "--top", "0"), ("--tag", "team", "--month", "2024-1")):
+            status, printed, said = self.report(*words, "--policy", missing)
+            self.assertEqual((status, printed), (2, ""), words)
+            self.assertNotIn("none.toml", said)
+        status, printed, said = focusd("compare", "--dir", self.folder, "--tag", "team", "--tag", "env", "--policy", missing)
+        self.assertEqual((status, printed), (2, ""))
+        self.assertNotIn("none.toml", said)
+
     def test_with_what_has_no_charges(self):
         file = self.file(policy("team", "web"))
         for words in (

@@ -45,7 +45,9 @@ FOUND = os.path.join(HERE, "found")
 # How many cases of one kind are kept.
 MOST_ALIKE = 2
 MOST_TRIES = 500
+# What further inputs are made of, of a reader and a job: at most so many inputs, of so many bytes together.
 MOST_POOL = 4_000
+MOST_POOL_BYTES = 32 << 20
 SHARES = {"scripts": 3, "csv": 4, "toml": 4, "json": 2, "folders": 6, "command-lines": 2}
 
 
@@ -174,6 +176,11 @@ def remember(memory, reader, one):
     reader.write(os.path.join(folder, hashlib.sha256(repr(one).encode()).hexdigest()[:16] + reader.extension), one)
 
 
+def size_of(one):
+    """How many bytes an input has."""
+    return sum(map(size_of, one)) if isinstance(one, (tuple, list)) else len(one or b"")
+
+
 def work(options, number, answers):
     """One job: changes inputs until its time or its runs are over."""
     stopped = []
@@ -184,6 +191,7 @@ def work(options, number, answers):
         session, chance = Session(options.program, options.limit, options.peer), random.Random(f"{options.seed}/{number}")
         finder = Finder(options, {"seed": options.seed, "job": number, "jobs": options.jobs})
         pools = {reader.name: list(reader.corpus().values()) + remembered(options.memory, reader) for reader in options.readers}
+        sizes = {name: size_of(pool) for name, pool in pools.items()}
         # The ways that the corpus goes are known.
         for reader in options.readers:
             learn(reader, pools[reader.name], session)
@@ -197,7 +205,11 @@ def work(options, number, answers):
             inputs = [reader.mutated(chance, pool) for _ in range(reader.together)]
             faults = reader.faults(inputs, session, chance)
             session.inputs += len(inputs)
-            for place in reader.new if len(pool) < MOST_POOL else []:
+            for place in reader.new:
+                size = size_of(inputs[place])
+                if len(pool) >= MOST_POOL or sizes[reader.name] + size > MOST_POOL_BYTES:
+                    continue
+                sizes[reader.name] += size
                 pool.append(inputs[place])
                 if options.memory:
                     remember(options.memory, reader, inputs[place])

@@ -15,7 +15,7 @@ use fw_command_line::command_line;
 use fw_commands::{
     list_policies, make_checkpoint, print_commitments, print_coverage, print_dump,
     print_explanation, print_export, print_lines, print_report, print_status, serve_script,
-    verify_folder,
+    verify_folder, wrong_report,
 };
 use fw_compare_commands::print_comparison;
 use fw_console::{Fault, WRONG_USE, printed, stopped, wrong_use};
@@ -133,6 +133,9 @@ fn ask(rt: &HostRuntime, question: &str, options: &ArgMatches<'_>) -> Result<Exi
 
 // Prints the report that the options ask for, under the policy of a file where they name one.
 fn report(rt: &HostRuntime, options: &ArgMatches<'_>) -> Result<ExitCode, Fault> {
+    if let Some(status) = wrong_report(rt, options)? {
+        return Ok(status);
+    }
     match &policy_file(rt, options)? {
         PolicyFile::Policy(policy) => print_report(rt, options, Some(policy)),
         PolicyFile::None => print_report(rt, options, None),

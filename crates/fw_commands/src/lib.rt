@@ -41,7 +41,7 @@ pub use hours_question::HoursQuestion;
 pub use lines::print_lines;
 pub use policy::{GivenPolicy, list_policies};
 pub use range::{read_hours, wrong_hours};
-pub use report::print_report;
+pub use report::{print_report, wrong_report};
 pub use run::serve_script;
 pub use selecting::selections_in;
 pub use silence::say_selected;

@@ -36,6 +36,24 @@ pub fn print_report(
     }
 }
 
+/// Says what is wrong with the words of a report under the policy of a file, if anything is, before that file is read.
+pub fn wrong_report(rt: &HostRuntime, options: &ArgMatches<'_>) -> Result<Option<ExitCode>, Fault> {
+    if !options.contains_id(POLICY) {
+        return Ok(None);
+    }
+    let hours = match read_hours(rt.alloc(), options)? {
+        Ok(hours) => hours,
+        Err(option) => return Ok(Some(wrong_hours(rt, options, option))),
+    };
+    if is_selection(options) {
+        return Ok(Some(print_selection(rt, options, hours)?));
+    }
+    match read_options(options) {
+        Ok(_shown) => Ok(None),
+        Err(text) => Ok(Some(wrong_top(rt, text))),
+    }
+}
+
 // Prints the report by a tag, under the policy of the warehouse or the one of a file.
 fn print_groups(
     rt: &HostRuntime,

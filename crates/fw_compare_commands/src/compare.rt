@@ -60,6 +60,9 @@ fn print_wanted(
         before,
         policy: None,
     };
+    if options.contains_id(POLICY) && wanted.one_tag().is_none() {
+        return Ok(no_policy(rt));
+    }
     match &policy_file(rt, options)? {
         PolicyFile::Policy(policy) => {
             let file = options.get_str(POLICY).unwrap_or("");
@@ -78,18 +81,15 @@ fn print_under(
     plain: Comparing<'_>,
     given: GivenPolicy<'_>,
 ) -> Result<ExitCode, Fault> {
-    match plain.wanted.one_tag() {
-        Some(key) if key == given.policy.key() => {
-            let under = Comparing {
-                wanted: plain.wanted,
-                before: plain.before,
-                policy: Some(given),
-            };
-            Ok(ask_hours(rt, options, hours, &under))
-        }
-        Some(_) => Ok(given.refuse(rt)?),
-        None => Ok(no_policy(rt)),
+    if plain.wanted.one_tag() != Some(given.policy.key()) {
+        return Ok(given.refuse(rt)?);
     }
+    let under = Comparing {
+        wanted: plain.wanted,
+        before: plain.before,
+        policy: Some(given),
+    };
+    Ok(ask_hours(rt, options, hours, &under))
 }
 
 // Says that no policy charges the groups that are asked for.
