@@ -84,6 +84,8 @@ pub(crate) struct Prints {
     pub(crate) rows: Vec<Print>,
     // the hashes of the texts of the last columns, by their places
     texts: Vec<Hashes>,
+    // the hashes of their lists of tags, by their codes, as far as they were met in turn
+    lists: Vec<Hashes>,
 }
 
 impl Prints {
@@ -94,15 +96,18 @@ impl Prints {
         Prints {
             rows: Vec::new(alloc),
             texts: Vec::new(alloc),
+            lists: Vec::new(alloc),
         }
     }
 
     /// Adds the prints of rows that stand behind so many records.
     pub(crate) fn add_all(&mut self, rows: &Columns, before: u64) -> Result<(), AllocError> {
         self.hash_texts(rows)?;
+        self.lists.clear();
         for place in 0..rows.len() {
             let number = before.saturating_add(place as u64 + 1);
-            let Hashes { first, second } = self.hashes_of(rows, place);
+            let tags = self.list(rows, place)?;
+            let Hashes { first, second } = self.hashes_of(rows, place, tags);
             self.rows.push(Print {
                 first,
                 second,
@@ -142,21 +147,34 @@ impl Prints {
         }
     }
 
-    // The hashes of all values of a row.
-    fn hashes_of(&self, rows: &Columns, place: usize) -> Hashes
+    // The hashes of the tags of a row. Rows mostly share their lists of tags, so those of a list are kept.
+    fn list(&mut self, rows: &Columns, place: usize) -> Result<Hashes, AllocError>
         requires { place < length rows.now }
     {
-        let numbers = numbers_of(rows, place);
-        let texts = numbers
-            .with_both(self.text_or_null(rows.discounts()[place]))
-            .with_both(self.text_or_null(rows.units()[place]))
-            .with_both(self.text_or_null(rows.skus()[place]))
-            .with_both(self.text_or_null(rows.sub_accounts()[place]));
-        let mut hashes = texts;
+        let code = rows.tag_list_code(place) as usize;
+        if let Some(known) = self.lists.as_slice().get(code) {
+            return Ok(*known);
+        }
+        let mut hashes = Hashes::NONE;
         for text in rows.tag_places(place) {
             hashes = hashes.with_both(self.text(*text));
         }
-        hashes
+        if code == self.lists.len() {
+            self.lists.push(hashes)?;
+        }
+        Ok(hashes)
+    }
+
+    // The hashes of all values of a row, whose tags have these.
+    fn hashes_of(&self, rows: &Columns, place: usize, tags: Hashes) -> Hashes
+        requires { place < length rows.now }
+    {
+        numbers_of(rows, place)
+            .with_both(self.text_or_null(rows.discounts()[place]))
+            .with_both(self.text_or_null(rows.units()[place]))
+            .with_both(self.text_or_null(rows.skus()[place]))
+            .with_both(self.text_or_null(rows.sub_accounts()[place]))
+            .with_both(tags)
     }
 }
 

@@ -8,6 +8,7 @@
 mod commitment;
 mod dumping;
 mod fault;
+mod instants;
 mod laws;
 mod policy;
 mod rows;

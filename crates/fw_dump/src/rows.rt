@@ -1,8 +1,7 @@
 //! The rows of a post, as CSV.
+use crate::instants::Instants;
 use crate::spelled::SpelledTags;
-use crate::values::{
-    QUOTE, QUOTE_IN_FIELD, push_amount, push_byte, push_comma, push_second, push_text,
-};
+use crate::values::{QUOTE, QUOTE_IN_FIELD, push_amount, push_byte, push_comma, push_text};
 use fw_charge::Currency;
 use fw_columns::{Columns, LentDiscount, LentRow};
 use fw_entries::{Run, Runs};
@@ -49,12 +48,34 @@ fn push_rows(
     end: usize,
     tags: &mut SpelledTags,
 ) -> Result<(), AllocError> {
+    let mut periods = Periods::new(*out.allocator());
     for place in first..end.min(columns.len()) {
         let row = columns.lent(place);
         let spelled = tags.text_of(columns.tag_list_code(place), row.tags())?;
-        push_record(out, currency, &row, spelled)?;
+        push_record(out, currency, &row, spelled, &mut periods)?;
     }
     Ok(())
+}
+
+// The instants that periods start and end at: rows of one hour mostly have the same.
+struct Periods {
+    starts: Instants,
+    ends: Instants,
+}
+
+impl Drop for Periods {
+    fn drop(self) {
+        let Self { starts: _, ends: _ } = self;
+    }
+}
+
+impl Periods {
+    fn new(alloc: Global) -> Periods {
+        Periods {
+            starts: Instants::new(alloc),
+            ends: Instants::new(alloc),
+        }
+    }
 }
 
 // Appends the names of the columns.
@@ -74,6 +95,7 @@ fn push_record(
     currency: Currency,
     row: &LentRow<'_>,
     tags: &[u8],
+    periods: &mut Periods,
 ) -> Result<(), AllocError> {
     let mut is_first = true;
     for column in Column::ALL {
@@ -81,13 +103,15 @@ fn push_record(
         is_first = false;
         match column {
             Column::Tags => out.extend_from_slice(tags)?,
+            Column::ChargePeriodStart => periods.starts.push(out, row.start())?,
+            Column::ChargePeriodEnd => periods.ends.push(out, row.end())?,
             _ => push_cell(out, currency, row, column)?,
         }
     }
     push_byte(out, b'\n')
 }
 
-// Appends what a row has in a column, tags aside; nothing where it is null.
+// Appends what a row has in a column, tags and period aside; nothing where it is null.
 fn push_cell(
     out: &mut Vec<u8>,
     currency: Currency,
@@ -99,8 +123,6 @@ fn push_cell(
         Column::EffectiveCost => push_amount(out, row.effective()),
         Column::BillingCurrency => out.extend_from_slice(currency.code()),
         Column::ChargeCategory => push_text(out, row.category().word()),
-        Column::ChargePeriodStart => push_second(out, row.start()),
-        Column::ChargePeriodEnd => push_second(out, row.end()),
         Column::ChargeClass => push_text(out, class_word(row.is_correction())),
         Column::CommitmentDiscountId => push_field(out, id_of(row.discount())),
         Column::CommitmentDiscountCategory => push_text(out, kind_of(row.discount())),
@@ -110,7 +132,7 @@ fn push_cell(
         Column::SkuId => push_field(out, row.sku().unwrap_or("")),
         Column::SubAccountId => push_field(out, row.sub_account().unwrap_or("")),
         // They are spelled once for all rows that have them.
-        Column::Tags => Ok(()),
+        Column::ChargePeriodStart | Column::ChargePeriodEnd | Column::Tags => Ok(()),
     }
 }
 

@@ -47,16 +47,16 @@ pub(crate) fn push_amount(out: &mut Vec<u8>, amount: Nanos) -> Result<(), AllocE
     }
     let magnitude = count.unsigned_abs();
     push_number(out, magnitude / NANOS)?;
-    push_byte(out, b'.')?;
     push_fraction(out, magnitude % NANOS)
 }
 
-// Appends the last nine digits of a number.
+// Appends a point, and the last nine digits of a number behind it.
 fn push_fraction(out: &mut Vec<u8>, number: u64) -> Result<(), AllocError> {
-    let mut digits = [b'0'; 9];
+    let mut digits = [b'0'; 10];
+    digits[0] = b'.';
     let mut rest = number;
     for place in 0..9 {
-        digits[8 - place] = b'0' + (rest % 10) as u8;
+        digits[9 - place] = b'0' + (rest % 10) as u8;
         rest /= 10;
     }
     out.extend_from_slice(&digits)

@@ -94,6 +94,7 @@ fn import_named(
     if !import_all(rt, threads, import, files, walk, workers)? {
         return Ok(ExitCode::FAILURE);
     }
+    import.end(rt.alloc())?;
     look_behind(rt, import)?;
     if tells_json(options) {
         return Ok(ExitCode::SUCCESS);

@@ -5,12 +5,13 @@ use crate::others::Others;
 use fw_columns::Columns;
 use fw_console::{Fault, House, Member};
 use fw_cut::Part;
+use fw_disk::FileVolume;
 use fw_export_files::{Taker, Walk, header_fault, say_header};
 use fw_import::{
     ImportFault, Importer, Outcome, ReadPart, Reader, Sent, Taken, import_part,
     import_part_keeping, posts_of, read_part, read_part_keeping,
 };
-use fw_recover::StoreFault;
+use fw_recover::{Store, StoreFault};
 use fw_rows::{Keeper, RowFault};
 use std::alloc::{AllocError, Global};
 use std::process::ExitCode;
@@ -244,16 +245,36 @@ impl<'a> Import<'a> {
         Ok(())
     }
 
-    // Makes a checkpoint where it pays. It joins segments, so those that the importer keeps are let go of.
+    // Makes a checkpoint where the log has become long. It joins segments, so those that the importer keeps are let go of.
     fn make_checkpoint(&mut self, alloc: Global) -> Result<(), StoreFault> {
         if let Some(store) = self.house.store() {
-            if store.checkpoint_pays() {
+            if is_long(store) {
                 store.checkpoint(alloc)?;
                 self.importer.forget_posts();
             }
         }
         Ok(())
     }
+
+    /// Makes a checkpoint at the end, where it pays.
+    pub(crate) fn end(&mut self, alloc: Global) -> Result<(), StoreFault> {
+        if let Some(store) = self.house.store() {
+            if store.checkpoint_pays() {
+                store.checkpoint(alloc)?;
+            }
+        }
+        Ok(())
+    }
+}
+
+/// How many times as long as the body the log becomes before an import makes a checkpoint, while it goes on. A row takes about twice as many bytes in the
+/// log as in the body, so the rows become three times as many from one checkpoint to the next. All of them together write each row one and a half times at
+/// the most, however long the import is, and the one at its end once more.
+const LOG_PER_BODY: u64 = 4;
+
+// Whether the log of a warehouse is so much longer than its body that an import makes a checkpoint while it goes on.
+fn is_long(store: &Store<FileVolume>) -> bool {
+    store.body_len().saturating_mul(LOG_PER_BODY) <= store.log_len()
 }
 
 impl Taker for Import<'_> {
