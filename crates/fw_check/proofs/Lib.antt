@@ -1,4 +1,5 @@
 pub mod CountFacts
+pub mod KnownFacts
 pub mod FieldFacts
 pub mod FaultFacts
 pub mod AnswerFacts

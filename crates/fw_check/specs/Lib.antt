@@ -1,6 +1,7 @@
 pub mod Counts
 pub mod Kept
 pub mod Seen
+pub mod Known
 pub mod Faults
 pub mod Lines
 pub mod Prints

@@ -1,15 +1,16 @@
 //! What is in a text.
-ghost use Rattle.std.specs.Prelude.{◌≡◌, ◌-◌, ◌<◌, map, nat_eq, OnOk};
+ghost use Rattle.std.specs.Prelude.{◌≡◌, ◌-◌, ◌<◌, ℕ, List, Some, length, map, nat_eq, All, OnOk};
 ghost use Rattle.fw_charge.specs.Codes.{category_code, category_count};
 ghost use Rattle.fw_check.specs.Counts.{counted, counted_all, text_counts};
 ghost use Rattle.fw_check.specs.Kept.{kept_value};
+ghost use Rattle.fw_check.specs.Known.{key_place, with_sums, AreKnown};
 ghost use Rattle.fw_check.specs.Seen.{seen_in, nothing_seen, with_counts, with_row, with_rows, with_values};
-ghost use Rattle.fw_row_table.specs.Lending.{tags_lent};
+ghost use Rattle.fw_row_table.specs.Table.{tags_of, text_at};
 ghost use Rattle.std.specs.Str.{bytes_eq};
 
 use crate::kept::{KeptColumn, count_kept};
 use fw_charge::Category;
-use fw_columns::{Columns, LentRow, LentTags};
+use fw_columns::{Columns, LentRow, Names};
 use indexmap::IndexMap;
 use std::alloc::{AllocError, Global};
 
@@ -71,12 +72,22 @@ pub(crate) fn count_text(
         ≡ counted bytes_eq key.now times (text_counts counts.old.entries)) }
 {
     if let Some(place) = counts.get_index_of(key) {
-        counts[place] = counts[place].saturating_add(times);
+        count_at(counts, place, times);
         return Ok(());
     }
     let key = String::from_str(alloc, key)?;
     counts.insert(key, times)?;
     Ok(())
+}
+
+// So many more under the key at a place.
+fn count_at(counts: &mut IndexMap<String, u64>, place: usize, times: u64)
+    requires { place < length counts.old.entries }
+    ensures { (key : List ℕ) → key_place key (text_counts counts.old.entries) ≡ Some place
+        → text_counts counts.new.entries
+        ≡ counted bytes_eq key times (text_counts counts.old.entries) }
+{
+    counts[place] = counts[place].saturating_add(times);
 }
 
 // One more in an hour.
@@ -91,18 +102,50 @@ fn count_hour(counts: &mut IndexMap<u32, u64>, hour: u32) -> Result<(), AllocErr
     Ok(())
 }
 
-// One more under the key of each tag.
+// One more under a name. The place of its key in the counts is looked up once and is known from then on.
+fn count_name(
+    alloc: Global,
+    counts: &mut IndexMap<String, u64>,
+    names: &Names,
+    known: &mut [Option<usize>],
+    name: u32,
+) -> Result<(), AllocError>
+    requires within { name < length names.now }
+    requires places { AreKnown names.now known.old (text_counts counts.old.entries) }
+    ensures counted { OnOk result (text_counts counts.new.entries
+        ≡ counted bytes_eq (text_at names.now name) 1 (text_counts counts.old.entries)) }
+    ensures places { OnOk result (AreKnown names.now known.new
+        (text_counts counts.new.entries)) }
+{
+    if let Some(place) = known[name as usize] {
+        count_at(counts, place, 1);
+        return Ok(());
+    }
+    let key = names.text(name);
+    count_text(alloc, counts, key, 1)?;
+    known[name as usize] = counts.get_index_of(key);
+    Ok(())
+}
+
+// One more under the key of each tag of a list: the place of each key in the names, and behind it that of its value.
 fn count_tags(
     alloc: Global,
     counts: &mut IndexMap<String, u64>,
-    tags: LentTags<'_>,
+    names: &Names,
+    known: &mut [Option<usize>],
+    list: &[u32],
 ) -> Result<(), AllocError>
-    ensures { OnOk result (text_counts counts.new.entries
-        ≡ counted_all (map (λ t. t.key) (tags_lent tags.entry)) (text_counts counts.old.entries)) }
+    requires within { All (λ one. one < length names.now) list.now }
+    requires places { AreKnown names.now known.old (text_counts counts.old.entries) }
+    ensures counted { OnOk result (text_counts counts.new.entries
+        ≡ counted_all (map (λ t. t.key) (tags_of names.now list.now))
+        (text_counts counts.old.entries)) }
+    ensures places { OnOk result (AreKnown names.now known.new
+        (text_counts counts.new.entries)) }
 {
-    let mut rest = tags;
-    while let Some((tag, after)) = rest.split_first() {
-        count_text(alloc, counts, tag.key, 1)?;
+    let mut rest = list;
+    while let [key, _value, after @ ..] = rest {
+        count_name(alloc, counts, names, known, *key)?;
         rest = after;
     }
     Ok(())
@@ -127,17 +170,30 @@ impl Statistics {
         }
     }
 
-    // Counts a row.
-    fn add(&mut self, alloc: Global, row: &LentRow<'_>) -> Result<(), AllocError>
-        ensures { OnOk result (seen_in self.new ≡ with_row row.now (seen_in self.old)) }
+    // Counts a row, whose tags are this list of places of names.
+    fn add(
+        &mut self,
+        alloc: Global,
+        row: &LentRow<'_>,
+        names: &Names,
+        known: &mut [Option<usize>],
+        list: &[u32],
+    ) -> Result<(), AllocError>
+        requires within { All (λ one. one < length names.now) list.now }
+        requires tags { tags_of names.now list.now ≡ row.now.tags }
+        requires places { AreKnown names.now known.old (text_counts self.old.tags.keys.entries) }
+        ensures row { OnOk result (seen_in self.new ≡ with_row row.now (seen_in self.old)) }
+        ensures places { OnOk result (AreKnown names.now known.new
+            (text_counts self.new.tags.keys.entries)) }
     {
-        self.add_counts(alloc, row)?;
+        self.add_sums(row)?;
+        count_tags(alloc, &mut self.tags.keys, names, known, list)?;
         self.add_kept(alloc, row)
     }
 
-    // Counts a row, but for its values in kept columns.
-    fn add_counts(&mut self, alloc: Global, row: &LentRow<'_>) -> Result<(), AllocError>
-        ensures { OnOk result (seen_in self.new ≡ with_counts row.now (seen_in self.old)) }
+    // Counts a row, but for its tags and its values in kept columns.
+    fn add_sums(&mut self, row: &LentRow<'_>) -> Result<(), AllocError>
+        ensures { OnOk result (seen_in self.new ≡ with_sums row.now (seen_in self.old)) }
     {
         self.rows = self.rows.saturating_add(1);
         self.billed = self.billed.saturating_add(i128::from(row.billed().count()));
@@ -146,9 +202,7 @@ impl Statistics {
             .saturating_add(i128::from(row.effective().count()));
         let category = place_of(row.category());
         self.categories[category] = self.categories[category].saturating_add(1);
-        count_hour(&mut self.hours, row.hour())?;
-        count_tags(alloc, &mut self.tags.keys, row.tags())?;
-        Ok(())
+        count_hour(&mut self.hours, row.hour())
     }
 
     // Counts the values of a row in kept columns.
@@ -162,8 +216,13 @@ impl Statistics {
     pub(crate) fn add_all(&mut self, alloc: Global, rows: &Columns) -> Result<(), AllocError>
         ensures { OnOk result (seen_in self.new ≡ with_rows rows.now (seen_in self.old)) }
     {
+        let names = rows.names();
+        let mut places = vec![in alloc; None; names.len()]?;
+        let known = places.as_mut_slice();
         for place in 0..rows.len() {
-            self.add(alloc, &rows.lent(place))?;
+            let row = rows.lent(place);
+            let list = rows.tag_places(place);
+            self.add(alloc, &row, names, known, list)?;
         }
         Ok(())
     }

@@ -1,29 +1,29 @@
-use Rattle.std.proofs.Common.{◌≡◌, ◌∙◌, ◌∷◌, ap, sym, map, arith, length}
-use Rattle.fw_row_table.specs.Lending.{tag_lent, tags_lent, tags_split}
+use Rattle.std.proofs.Common.{◌<◌, ◌∙◌, ap, sym, subst, arith, drop, length, map, ℕ, All}
+use Rattle.std.proofs.lemmas.List.Elements.{All-drop}
+use Rattle.fw_row_table.specs.Table.{tag_of, tags_of}
+use Rattle.fw_row_table.proofs.ListFacts.{behind_two}
+use Rattle.fw_row_table.proofs.TableFacts.{tags_nowhere, tags_step}
 use Rattle.fw_check.specs.Counts.{counted_all, text_counts}
 use Rattle.fw_check.proofs.statistics.count_tags.Goals as goal
 
-pub loop-tag-smaller : goal.loop-tag-smaller
-unfolding tags_split
-loop-tag-smaller c =
-    let parted : tags_lent c.loop-tag.rest ≡ tag_lent c.in-Some.tag ∷ tags_lent c.in-Some.after =
-    c.split_first.ensures ∙ ap tags_split c.in-Some.is in
-    let size = ap length parted in
-    omega (arith, size)
+pub loop-rest-preserved : goal.loop-rest-preserved
+unfolding tag_of
+loop-rest-preserved c =
+    let names = c.args.names.now in
+    let rest = c.loop-rest.rest.now in
+    let counts = text_counts c.loop-rest.counts.entries in
+    let Within : ℕ → Type 0 = λ one. one < length names in
+    record {
+      counted = ap (λ list. counted_all (map (λ t. t.key) (tags_of names list)) (text_counts c.count_name.new.counts.entries)) (behind_two rest)
+          ∙ ap (counted_all (map (λ t. t.key) (tags_of names (drop 2 rest)))) c.in_ok-count_name.ensures.counted
+          ∙ sym (ap (λ tags. counted_all (map (λ t. t.key) tags) counts) (tags_step names rest c.in-len2-up.len_at_least))
+          ∙ c.loop-rest.invariant.counted;
+      within = subst (All Within) (sym (behind_two rest)) (All-drop Within 2 rest c.loop-rest.invariant.within);
+      places = c.in_ok-count_name.ensures.places;
+    }
 
-pub loop-tag-preserved : goal.loop-tag-preserved
-unfolding tags_split
-loop-tag-preserved c =
-    let parted : tags_lent c.loop-tag.rest ≡ tag_lent c.in-Some.tag ∷ tags_lent c.in-Some.after =
-    c.split_first.ensures ∙ ap tags_split c.in-Some.is in
-    let counts = text_counts c.loop-tag.counts.entries in
-    ap (counted_all (map (λ t. t.key) (tags_lent c.in-Some.after))) c.in_ok-count_text.ensures
-    ∙ sym (ap (λ tags. counted_all (map (λ t. t.key) tags) counts) parted)
-    ∙ c.loop-tag.invariant
-
-pub returns : goal.returns
-unfolding tags_split
-returns c =
-    let none = c.split_first.ensures ∙ ap tags_split c.in_default.is in
-    let counts = text_counts c.loop-tag.counts.entries in
-    sym (ap (λ tags. counted_all (map (λ t. t.key) tags) counts) none) ∙ c.loop-tag.invariant
+pub returns-clause-counted : goal.returns-clause-counted
+returns-clause-counted c =
+    let none = tags_nowhere c.args.names.now c.loop-rest.rest.now (omega (arith, c.in_default.len_below)) in
+    let counts = text_counts c.loop-rest.counts.entries in
+    sym (ap (λ tags. counted_all (map (λ t. t.key) tags) counts) none) ∙ c.loop-rest.invariant.counted

@@ -1,25 +1,19 @@
-use Rattle.std.proofs.Common.{◌≡◌, ◌∙◌, ◌+◌, ap, sym, unwrap_or, string_bytes, Some, None, arith, position}
+use Rattle.std.proofs.Common.{◌≡◌, ◌∙◌, ap, sym, unwrap_or, string_bytes, None, arith, position}
 use Rattle.std.specs.Map.{keys_of, lookup}
 use Rattle.std.specs.String.{string_eq}
 use Rattle.std.specs.Str.{bytes_eq}
-use Rattle.indexmap.specs.IndexMap.{insert_entry, set_value_at}
-use Rattle.indexmap.proofs.MapLemmas.{Found-position, Missing-position}
-use Rattle.fw_check.specs.Counts.{kept, counted, text_counts}
-use Rattle.fw_check.proofs.CountFacts.{counted_at, counted_in, is_key, next_count}
+use Rattle.indexmap.specs.IndexMap.{insert_entry}
+use Rattle.indexmap.proofs.MapLemmas.{Missing-position}
+use Rattle.fw_check.specs.Counts.{counted, text_counts}
+use Rattle.fw_check.proofs.CountFacts.{counted_in, is_key, next_count}
+use Rattle.fw_check.proofs.KnownFacts.{place_shown}
 use Rattle.fw_check.proofs.statistics.count_text.Goals as goal
 
 pub returns-in-Some : goal.returns-in-Some
 returns-in-Some c =
     let entries = c.args.counts.now.entries in
     let key = c.args.key.now in
-    let times = c.args.times in
-    let place = c.in-Some.place in
-    let at : position (is_key string_bytes bytes_eq key times) (keys_of entries) ≡ Some place =
-    sym c.get_index_of.ensures.index ∙ c.in-Some.is in
-    let found = Found-position (is_key string_bytes bytes_eq key times) entries place at in
-    ap (λ w. text_counts (set_value_at entries place w)) c.saturating_add.ensures
-    ∙ counted_at string_bytes bytes_eq key times entries place c.index.result.now found.or_len
-    (found.value ∙ c.index.ensures)
+    c.count_at.ensures key (sym (place_shown key entries) ∙ sym c.get_index_of.ensures.index ∙ c.in-Some.is)
 
 pub returns : goal.returns
 returns c =
