@@ -668,15 +668,18 @@ class Folders(Reader):
     """The two files of a folder, each of which may be missing."""
 
     name = "folders"
-    # The layouts of files that inputs were made of.
-    known = {}
+    # The layouts of files that inputs were made of, of at most so many bytes of files: a layout takes many times as many.
+    known, known_bytes = {}, 0
+    MOST_KNOWN_BYTES = 2 << 20
 
     def layout_of(self, file):
         if len(file) < 26:
             return folder_oracle.Layout(fields=[])
         if file not in self.known:
-            if len(self.known) > 500:
+            if self.known_bytes > self.MOST_KNOWN_BYTES:
                 self.known.clear()
+                self.known_bytes = 0
+            self.known_bytes += len(file)
             self.known[file] = folder_oracle.layout_of(file)
         return self.known[file]
 
