@@ -1,10 +1,10 @@
 //! Whether the rows of files fit into a warehouse, before the first of them is posted.
 use crate::importing::Import;
+use fw_check::line_ends;
 use fw_console::{Fault, House, bytes_of, say_fault};
 use fw_cut::{CutFault, Cutter};
 use fw_export_files::{all_exports, texts_of};
 use fw_import::{fits, surely_fits};
-use memchr::memchr_iter;
 use std::alloc::{AllocError, Global};
 use std::fs;
 use std::io::Read;
@@ -61,7 +61,7 @@ fn plain_bytes(rt: &HostRuntime, files: &[&str]) -> Option<u64> {
 fn most_rows(rt: &HostRuntime, files: &[&str]) -> Result<Option<u64>, Fault> {
     let mut rows: u64 = 0;
     for file in files {
-        match line_ends(rt, file)? {
+        match line_ends_of(rt, file)? {
             Some(more) => rows = rows.saturating_add(more).saturating_add(1),
             None => return Ok(None),
         }
@@ -70,7 +70,7 @@ fn most_rows(rt: &HostRuntime, files: &[&str]) -> Result<Option<u64>, Fault> {
 }
 
 // How many line feeds and carriage returns a file has.
-fn line_ends(rt: &HostRuntime, file: &str) -> Result<Option<u64>, Fault> {
+fn line_ends_of(rt: &HostRuntime, file: &str) -> Result<Option<u64>, Fault> {
     let Ok(mut opened) = fs::open(rt, file) else {
         return Ok(None);
     };
@@ -81,22 +81,13 @@ fn line_ends(rt: &HostRuntime, file: &str) -> Result<Option<u64>, Fault> {
             Ok(0) => return Ok(Some(ends)),
             Ok(len) => {
                 let read = &piece[..len.min(PIECE)];
-                ends = ends.saturating_add(times(b'\n', read));
-                ends = ends.saturating_add(times(b'\r', read));
+                ends = ends.saturating_add(line_ends(read, b'\n'));
+                ends = ends.saturating_add(line_ends(read, b'\r'));
             }
             Err(_) => return Ok(None),
         }
     }
     Ok(None)
-}
-
-// How often a byte stands in a text. One that is rare there costs next to nothing, since a look is for many bytes at a time.
-fn times(byte: u8, text: &[u8]) -> u64 {
-    let mut times: u64 = 0;
-    for _place in memchr_iter(byte, text) {
-        times = times.saturating_add(1);
-    }
-    times
 }
 
 // How many records files have behind their headers. None where one can't be read or cut: its import says why.

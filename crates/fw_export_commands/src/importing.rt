@@ -267,9 +267,9 @@ impl<'a> Import<'a> {
     }
 }
 
-/// How many times as long as the body the log becomes before an import makes a checkpoint, while it goes on. A row takes about twice as many bytes in the
-/// log as in the body, so the rows become three times as many from one checkpoint to the next. All of them together write each row one and a half times at
-/// the most, however long the import is, and the one at its end once more.
+/// How many times as long as the body the log becomes before an import makes a checkpoint, while it goes on. Where a row takes twice as many bytes in the
+/// log as in the body, the rows become three times as many from one checkpoint to the next. Then all of them together write each row about one and a half
+/// times, however long the import is, and the one at its end once more.
 const LOG_PER_BODY: u64 = 4;
 
 // Whether the log of a warehouse is so much longer than its body that an import makes a checkpoint while it goes on.
