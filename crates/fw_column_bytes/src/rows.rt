@@ -4,7 +4,7 @@ ghost use Rattle.std.specs.Str.{bytes_eq};
 ghost use Rattle.fw_bytes.specs.Reading.{Gives};
 ghost use Rattle.fw_charge.specs.Tags.{TagText};
 ghost use Rattle.fw_charge.specs.Spelling.{FitsTags};
-ghost use Rattle.fw_columns.specs.RowViews.{charge_with};
+ghost use Rattle.fw_row_table.specs.Lending.{charge_with};
 ghost use Rattle.fw_row_table.specs.Table.{tag_of, tags_of, text_of, most_column_rows};
 ghost use Rattle.fw_fields.specs.Row.{fields_agree, row_from};
 ghost use Rattle.fw_column_bytes.specs.Spelling.{columns};

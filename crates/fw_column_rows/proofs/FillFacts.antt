@@ -9,7 +9,7 @@ use Rattle.std.proofs.lemmas.Option.{slice_get-get_or}
 use Rattle.fw_charge.specs.Charge.{Charge}
 use Rattle.fw_charge.specs.Tags.{TagText, IsTags}
 use Rattle.fw_row_table.specs.Names.{Text, place_of, with_text}
-use Rattle.fw_columns.specs.RowViews.{tags_at}
+use Rattle.fw_columns.specs.Rows.{tags_at}
 use Rattle.fw_row_table.proofs.NameFacts.{at_its_end, place-there, text_at_place}
 use Rattle.fw_rows.specs.Judged.{JudgedWithin}
 use Rattle.fw_rows.specs.Rules.{Rule, tags_stated}

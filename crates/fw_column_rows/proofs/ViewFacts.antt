@@ -5,8 +5,8 @@ use Rattle.fw_charge.specs.Charge.{Charge, DiscountText, IsCharge, IsDiscountOf,
 use Rattle.fw_charge.specs.Codes.{category_word}
 use Rattle.fw_charge.specs.Tags.{TagText, IsTags}
 use Rattle.fw_charge.specs.declared.category.Category.{Category}
-use Rattle.fw_columns.specs.RowViews.{charge_with, discount_with}
-use Rattle.fw_columns.specs.declared.row_view.RowView.{RowView}
+use Rattle.fw_row_table.specs.Lending.{charge_with, discount_with}
+use Rattle.fw_row_table.specs.declared.lending.RowView.{RowView}
 use Rattle.fw_rules.specs.Table.{FirstBroken, NoneBroken}
 use Rattle.fw_rows.specs.Judged.{JudgedWithin}
 use Rattle.fw_rows.specs.Parts.{charged_rules, discount_rules, NamedOrNull, TextsAreShort, discount_text}

@@ -2,8 +2,9 @@
 use Rattle.std.specs.Prelude.{◌≡◌, ◌<◌, ◌+◌, ◌++◌, ℕ, List, [], ◌∷◌, length, slice_index, slice_index_or, Some, Result, Ok, Err}
 use Rattle.fw_charge.specs.Charge.{Charge}
 use Rattle.fw_charge.specs.Tags.{TagText, IsTags}
-use Rattle.fw_columns.specs.RowViews.{charge_with, tags_at}
-use Rattle.fw_columns.specs.declared.row_view.RowView.{RowView}
+use Rattle.fw_row_table.specs.Lending.{charge_with}
+use Rattle.fw_columns.specs.Rows.{tags_at}
+use Rattle.fw_row_table.specs.declared.lending.RowView.{RowView}
 use Rattle.fw_rows.specs.Parts.{TextsAreShort}
 use Rattle.fw_rows.specs.Rules.{Texts, AreShort, tags_stated}
 use Rattle.fw_rows.specs.declared.column.Column.TheVariants as column

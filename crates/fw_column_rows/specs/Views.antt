@@ -2,8 +2,8 @@
 use Rattle.std.specs.Prelude.{◌≡◌, ◌≤◌, ◌++◌, ℕ, List, [], Ok, MatchOption, option_copied}
 use Rattle.fw_charge.specs.Charge.{last_second}
 use Rattle.fw_charge.specs.Codes.{category_word, class_word}
-use Rattle.fw_columns.specs.RowViews.{discount_with}
-use Rattle.fw_columns.specs.declared.row_view.RowView.{RowView}
+use Rattle.fw_row_table.specs.Lending.{discount_with}
+use Rattle.fw_row_table.specs.declared.lending.RowView.{RowView}
 use Rattle.fw_instants.specs.Instants.{IsSecond}
 use Rattle.fw_money.specs.Reading.{Reads}
 use Rattle.fw_rows.specs.Parts.{charged_rules, discount_rules}

@@ -1,7 +1,8 @@
 //! Columns that the records of a text fill.
 ghost use Rattle.std.specs.Prelude.{◌≡◌, ◌<◌, ◌≤◌, ◌+◌, ◌++◌, ◌∷◌, ℕ, List, [], Ok, length, slice_index_or, IfOk, OnOk};
 ghost use Rattle.fw_charge.specs.Tags.{IsTags, TagText};
-ghost use Rattle.fw_columns.specs.RowViews.{charge_with, tags_at};
+ghost use Rattle.fw_row_table.specs.Lending.{charge_with};
+ghost use Rattle.fw_columns.specs.Rows.{tags_at};
 ghost use Rattle.fw_rows.specs.Judged.{JudgedWithin};
 ghost use Rattle.fw_rows.specs.Parts.{texts_of, TagsAnswer};
 ghost use Rattle.fw_rows.specs.Rules.{length_rules};

@@ -1,6 +1,6 @@
 //! What a record says of its row, but its tags.
 ghost use Rattle.std.specs.Prelude.{◌≡◌, option_copied};
-ghost use Rattle.fw_columns.specs.RowViews.{discount_with};
+ghost use Rattle.fw_row_table.specs.Lending.{discount_with};
 ghost use Rattle.fw_rows.specs.Judged.{Judged};
 ghost use Rattle.fw_rows.specs.Parts.{texts_of, discount_text};
 ghost use Rattle.fw_rows.specs.Rules.{not_null};

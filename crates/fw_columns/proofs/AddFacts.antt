@@ -12,7 +12,7 @@ use Rattle.fw_columns.specs.declared.adding.TextCodes.{TextCodes}
 use Rattle.fw_charge.specs.declared.discount.DiscountKind.{DiscountKind}
 use Rattle.fw_charge.specs.declared.discount.DiscountStatus.{DiscountStatus}
 use Rattle.std.specs.Borrow.{Bor}
-use Rattle.fw_columns.specs.declared.row_view.RowView.{RowView}
+use Rattle.fw_row_table.specs.declared.lending.RowView.{RowView}
 use Rattle.fw_row_table.specs.declared.table.Table.{Table}
 use Rattle.fw_row_table.specs.Names.{Text, place_of, with_text}
 use Rattle.fw_row_table.specs.Texts.{with_texts, texts_of, texts_of_tags, names_of, most_texts}
@@ -20,7 +20,8 @@ use Rattle.fw_row_table.specs.Lists.{tag_places, lists_of}
 use Rattle.fw_row_table.specs.Codes.{text_code}
 use Rattle.fw_charge.specs.Codes.{category_code, class_code}
 use Rattle.fw_row_table.specs.Table.{most_column_rows, AreColumns, id_kept, kind_kept, status_kept, quantity_kept, charge_at}
-use Rattle.fw_columns.specs.RowViews.{charge_with, discount_with, tags_at}
+use Rattle.fw_row_table.specs.Lending.{charge_with, discount_with}
+use Rattle.fw_columns.specs.Rows.{tags_at}
 use Rattle.fw_columns.specs.Adding.{texts_of_view, AreCodesOf, HasMore}
 use Rattle.fw_row_table.proofs.TextFacts.{IsKnown, AreKnown, AreKnown-left, AreKnown-right, AreKnown-seen, IsKnown-more, IsRowKnown, known_adds_nothing, with_texts-append, with_texts-grows}
 use Rattle.fw_row_table.proofs.ListFacts.{AreListed, listed_more, lists_kept, lists_of-append, places_kept}
@@ -33,7 +34,7 @@ unfolding text_code
 code_kept names more None h = refl
 code_kept names more (Some t) h = let grown = with_texts-grows names more in rw (grown.1, (IsKnown-more names grown.0 t h.0).0) refl
 
-codes_kept : (names more : List Text) (text : Charge → Option Text) → ((c : Charge) → IsRowKnown names c → AreKnown names (option_to_list (text c))) → (rows : List Charge) → All (IsRowKnown names) rows
+pub codes_kept : (names more : List Text) (text : Charge → Option Text) → ((c : Charge) → IsRowKnown names c → AreKnown names (option_to_list (text c))) → (rows : List Charge) → All (IsRowKnown names) rows
     → map (λ c. text_code names (text c)) rows ≡ map (λ c. text_code (with_texts names more) (text c)) rows
 codes_kept names more text known [] all = refl
 codes_kept names more text known (r ∷ rs) all =

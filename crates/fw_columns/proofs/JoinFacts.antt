@@ -1,4 +1,4 @@
--- The columns of rows and of further rows, by the places that their names have now.
+-- The columns of rows with those of further rows behind them, by the places that their names have now.
 use Rattle.std.proofs.Common.{◌≡◌, ℕ, ◌+◌, ◌*◌, ◌<◌, ◌≤◌, List, [], ◌∷◌, ◌++◌, length, map, Option, Some, None, refl, sym, ap, ◌∙◌, arith, length-append}
 use Rattle.std.specs.Prelude.{option_map, option_to_list, All, nat_abs}
 use Rattle.std.proofs.lemmas.List.{get_or-map, map-append}
@@ -7,18 +7,16 @@ use Rattle.std.proofs.lemmas.List.Elements.{All-nil, All-head, All-tail, All-app
 use Rattle.fw_charge.specs.Charge.{Charge, IsCharge}
 use Rattle.fw_money.specs.Amount.{most_nanos}
 use Rattle.fw_row_table.specs.declared.table.Table.{Table}
-use Rattle.fw_columns.specs.declared.joining.Plain.{Plain}
-use Rattle.fw_columns.specs.declared.joining.Coded.{Coded}
-use Rattle.fw_columns.specs.declared.joining.Listed.{Listed}
 use Rattle.fw_row_table.specs.Names.{Text, place_of}
-use Rattle.fw_row_table.specs.Texts.{texts_of_tags, names_of, with_texts, most_texts}
+use Rattle.fw_row_table.specs.Texts.{texts_of_tags, with_texts, most_texts}
 use Rattle.fw_row_table.specs.Lists.{tag_places, lists_of}
 use Rattle.fw_row_table.specs.Codes.{text_code}
 use Rattle.fw_row_table.specs.Table.{most_column_rows, AreColumns}
-use Rattle.fw_columns.specs.Joining.{replaced, replaced_code, AreCodesBelow, AreListsBelow, ArePlainOf, AreCodedOf, AreListsOf}
+use Rattle.fw_columns.specs.Joining.{replaced, replaced_code, AreCodesBelow, HasAll}
+use Rattle.fw_columns.proofs.AddFacts.{codes_kept, renamed}
 use Rattle.fw_row_table.proofs.NameFacts.{text_at_place}
-use Rattle.fw_row_table.proofs.TextFacts.{AreKnown, IsRowKnown, names_of-append, images_in_turn}
-use Rattle.fw_row_table.proofs.ListFacts.{places-within, with_texts-all, lists_of-append}
+use Rattle.fw_row_table.proofs.TextFacts.{AreKnown, IsRowKnown, names_of-append, images_behind, with_texts-append}
+use Rattle.fw_row_table.proofs.ListFacts.{places-within, places_kept, with_texts-all, lists_kept, lists_of-append}
 use Rattle.fw_row_table.proofs.TableFacts.{one_more, rows_known, lists_known}
 use Rattle.fw_row_table.proofs.RowFacts.{text-within}
 
@@ -83,76 +81,68 @@ module _ (t : Table) (rows : List Charge) (columns : AreColumns t rows) where
   pub tags_within : All (λ place. place < length t.lists) t.tags.items
   tags_within = rw columns.tags (places-within t.lists (lists_of t.names rows) (lists_known t rows columns))
 
-  pub lists_below : (n : ℕ) → n ≡ length t.names → AreListsBelow t n
-  lists_below n e = rw e (record { lists = lists_within; tags = tags_within })
-
--- the columns of rows and then of further rows are those of all
-module _ (a b : Table) (ra rb : List Charge) (ca : AreColumns a ra) (cb : AreColumns b rb) (names : List Text) (one two : List ℕ) (of_a : one ≡ map (place_of names) a.names) (of_b : two ≡ map (place_of names) b.names) where
+-- the columns of rows with those of further rows behind them are those of all
+module _ (a n b : Table) (ra rb : List Charge) (ca : AreColumns a ra) (cb : AreColumns b rb) (texts lists : List ℕ) (names_are : n.names ≡ with_texts a.names b.names)
+    (texts_are : texts ≡ map (place_of n.names) b.names) (lists_seen : n.lists ≡ with_texts a.lists (map (replaced texts) b.lists))
+    (lists_are : lists ≡ map (place_of n.lists) (map (replaced texts) b.lists)) where
   both_codes : (text : Charge → Option Text) → ((ns : List Text) (c : Charge) → IsRowKnown ns c → AreKnown ns (option_to_list (text c)))
-      → map (replaced_code one) (map (λ c. text_code a.names (text c)) ra) ++ map (replaced_code two) (map (λ c. text_code b.names (text c)) rb) ≡ map (λ c. text_code names (text c)) (ra ++ rb)
+      → map (λ c. text_code a.names (text c)) ra ++ map (replaced_code texts) (map (λ c. text_code b.names (text c)) rb) ≡ map (λ c. text_code n.names (text c)) (ra ++ rb)
   both_codes text known =
-      let x = codes_again a.names names one of_a text (known a.names) ra (rows_known a ra ca) in
-      let y = codes_again b.names names two of_b text (known b.names) rb (rows_known b rb cb) in
-      (λ j. x j ++ y j) ∙ sym (map-append (λ c. text_code names (text c)) ra rb)
+      let x : map (λ c. text_code a.names (text c)) ra ≡ map (λ c. text_code n.names (text c)) ra =
+      codes_kept a.names b.names text (known a.names) ra (rows_known a ra ca) ∙ (λ j. map (λ c. text_code (sym names_are j) (text c)) ra) in
+      let y = codes_again b.names n.names texts texts_are text (known b.names) rb (rows_known b rb cb) in
+      (λ j. x j ++ y j) ∙ sym (map-append (λ c. text_code n.names (text c)) ra rb)
 
-  both_lists : map (replaced one) (lists_of a.names ra) ++ map (replaced two) (lists_of b.names rb) ≡ lists_of names (ra ++ rb)
+  both_lists : lists_of a.names ra ++ map (replaced texts) (lists_of b.names rb) ≡ lists_of n.names (ra ++ rb)
   both_lists =
-      let x = lists_again a.names names one of_a ra (rows_known a ra ca) in
-      let y = lists_again b.names names two of_b rb (rows_known b rb cb) in
-      (λ j. x j ++ y j) ∙ sym (lists_of-append names ra rb)
+      let x : lists_of a.names ra ≡ lists_of n.names ra = sym (lists_kept a.names b.names ra (rows_known a ra ca)) ∙ ap (λ ns. lists_of ns ra) (sym names_are) in
+      let y = lists_again b.names n.names texts texts_are rb (rows_known b rb cb) in
+      (λ j. x j ++ y j) ∙ sym (lists_of-append n.names ra rb)
 
-  pub joined_columns : length ra + length rb ≤ most_column_rows → names ≡ with_texts (with_texts [] a.names) b.names → length names ≤ length a.names + length b.names
-      → (p : Plain) (k : Coded) (g : Listed) → ArePlainOf p a b → AreCodedOf k a b one two → AreListsOf g a b one two
-      → AreColumns (record {
-        names = names;
-        lists = g.lists;
-        billed = p.billed;
-        effective = p.effective;
-        categories = p.categories;
-        classes = p.classes;
-        starts = p.starts;
-        ends = p.ends;
-        discounts = k.discounts;
-        kinds = p.kinds;
-        statuses = p.statuses;
-        quantities = p.quantities;
-        has_quantity = p.has_quantity;
-        units = k.units;
-        skus = k.skus;
-        sub_accounts = k.sub_accounts;
-        tags = g.tags;
-      }) (ra ++ rb)
-  joined_columns fits seen some p k g plain coded listed = record {
+  all_lists : n.lists ≡ with_texts [] (lists_of n.names (ra ++ rb))
+  all_lists =
+      let la = lists_of a.names ra in
+      let lb = lists_of b.names rb in
+      lists_seen
+      ∙ ((λ j. with_texts (ca.lists j) (map (replaced texts) (cb.lists j)))
+      ∙ (images_behind (replaced texts) (with_texts [] la) lb
+      ∙ (sym (with_texts-append [] la (map (replaced texts) lb)) ∙ ap (with_texts []) both_lists)))
+
+  both_tags : a.tags.items ++ replaced lists b.tags.items ≡ map (place_of n.lists) (lists_of n.names (ra ++ rb))
+  both_tags =
+      let la = lists_of a.names ra in
+      let lb = lists_of b.names rb in
+      let x : a.tags.items ≡ map (place_of n.lists) la =
+      ca.tags ∙ (sym (places_kept a.lists (map (replaced texts) b.lists) la (lists_known a ra ca)) ∙ (λ j. map (place_of (sym lists_seen j)) la)) in
+      let y : replaced lists b.tags.items ≡ map (place_of n.lists) (map (replaced texts) lb) =
+      (λ j. replaced (lists_are j) (cb.tags j)) ∙ values_again b.lists lb (replaced texts) (place_of n.lists) (lists_known b rb cb) in
+      (λ j. x j ++ y j) ∙ (sym (map-append (place_of n.lists) la (map (replaced texts) lb)) ∙ ap (map (place_of n.lists)) both_lists)
+
+  pub appended_columns : length ra + length rb ≤ most_column_rows → length n.names ≤ length a.names + length b.names → length n.lists ≤ length a.lists + length b.lists → (names : List Text) (kept : List (List ℕ))
+      → HasAll (renamed a names kept) n b texts lists → AreColumns n (ra ++ rb)
+  appended_columns fits some few names kept all = record {
     few = rw length-append fits;
     charges = All-append IsCharge ra rb ca.charges cb.charges;
-    names = seen ∙ (ap (λ ns. with_texts (with_texts [] ns) b.names) ca.names ∙ (ap (λ ns. with_texts (with_texts [] (names_of ra)) ns) cb.names ∙ names_of-append ra rb));
+    names = names_are ∙ ((λ j. with_texts (ca.names j) (cb.names j)) ∙ names_of-append ra rb);
     names_few = let x : length a.names ≤ most_texts * length ra = ca.names_few in let y : length b.names ≤ most_texts * length rb = cb.names_few in rw length-append (omega (arith, some, x, y));
-    lists =
-        listed.lists ∙ ((λ j. with_texts (with_texts [] (map (replaced one) (ca.lists j))) (map (replaced two) (cb.lists j)))
-        ∙ (images_in_turn (replaced one) (replaced two) (lists_of a.names ra) (lists_of b.names rb) ∙ ap (with_texts []) both_lists));
-    lists_few = let x : length a.lists ≤ length ra = ca.lists_few in let y : length b.lists ≤ length rb = cb.lists_few in let z : length g.lists ≤ length a.lists + length b.lists = listed.few in rw length-append (omega (arith, x, y, z));
-    billed = plain.billed ∙ rw (ca.billed, cb.billed, map-append) refl;
-    effective = plain.effective ∙ rw (ca.effective, cb.effective, map-append) refl;
-    billed_range = rw plain.billed (All-append (λ n. nat_abs n ≤ most_nanos) a.billed.items b.billed.items ca.billed_range cb.billed_range);
-    effective_range = rw plain.effective (All-append (λ n. nat_abs n ≤ most_nanos) a.effective.items b.effective.items ca.effective_range cb.effective_range);
-    categories = plain.categories ∙ rw (ca.categories, cb.categories, map-append) refl;
-    classes = plain.classes ∙ rw (ca.classes, cb.classes, map-append) refl;
-    starts = plain.starts ∙ rw (ca.starts, cb.starts, map-append) refl;
-    ends = plain.ends ∙ rw (ca.ends, cb.ends, map-append) refl;
-    discounts = coded.discounts ∙ rw (ca.discounts, cb.discounts) (both_codes (λ c. option_map (λ d. d.id) c.discount) (λ ns c known. known.discount));
-    kinds = plain.kinds ∙ rw (ca.kinds, cb.kinds, map-append) refl;
-    statuses = plain.statuses ∙ rw (ca.statuses, cb.statuses, map-append) refl;
-    quantities = plain.quantities ∙ rw (ca.quantities, cb.quantities, map-append) refl;
-    quantities_range = rw plain.quantities (All-append (λ n. nat_abs n ≤ most_nanos) a.quantities.items b.quantities.items ca.quantities_range cb.quantities_range);
-    has_quantity = plain.has_quantity ∙ rw (ca.has_quantity, cb.has_quantity, map-append) refl;
-    units = coded.units ∙ rw (ca.units, cb.units) (both_codes (λ c. c.unit) (λ ns c known. known.unit));
-    skus = coded.skus ∙ rw (ca.skus, cb.skus) (both_codes (λ c. c.sku) (λ ns c known. known.sku));
-    sub_accounts = coded.sub_accounts ∙ rw (ca.sub_accounts, cb.sub_accounts) (both_codes (λ c. c.sub_account) (λ ns c known. known.sub_account));
-    tags =
-        let la = lists_of a.names ra in
-        let lb = lists_of b.names rb in
-        let x = values_again a.lists la (replaced one) (place_of g.lists) (lists_known a ra ca) in
-        let y = values_again b.lists lb (replaced two) (place_of g.lists) (lists_known b rb cb) in
-        listed.tags ∙ ((λ j. replaced (map (place_of g.lists) (map (replaced one) a.lists)) (ca.tags j) ++ replaced (map (place_of g.lists) (map (replaced two) b.lists)) (cb.tags j))
-        ∙ ((λ j. x j ++ y j) ∙ (sym (map-append (place_of g.lists) (map (replaced one) la) (map (replaced two) lb)) ∙ ap (map (place_of g.lists)) both_lists)));
+    lists = all_lists;
+    lists_few = let x : length a.lists ≤ length ra = ca.lists_few in let y : length b.lists ≤ length rb = cb.lists_few in rw length-append (omega (arith, x, y, few));
+    billed = all.billed ∙ rw (ca.billed, cb.billed, map-append) refl;
+    effective = all.effective ∙ rw (ca.effective, cb.effective, map-append) refl;
+    billed_range = rw all.billed (All-append (λ n. nat_abs n ≤ most_nanos) a.billed.items b.billed.items ca.billed_range cb.billed_range);
+    effective_range = rw all.effective (All-append (λ n. nat_abs n ≤ most_nanos) a.effective.items b.effective.items ca.effective_range cb.effective_range);
+    categories = all.categories ∙ rw (ca.categories, cb.categories, map-append) refl;
+    classes = all.classes ∙ rw (ca.classes, cb.classes, map-append) refl;
+    starts = all.starts ∙ rw (ca.starts, cb.starts, map-append) refl;
+    ends = all.ends ∙ rw (ca.ends, cb.ends, map-append) refl;
+    discounts = all.discounts ∙ rw (ca.discounts, cb.discounts) (both_codes (λ c. option_map (λ d. d.id) c.discount) (λ ns c known. known.discount));
+    kinds = all.kinds ∙ rw (ca.kinds, cb.kinds, map-append) refl;
+    statuses = all.statuses ∙ rw (ca.statuses, cb.statuses, map-append) refl;
+    quantities = all.quantities ∙ rw (ca.quantities, cb.quantities, map-append) refl;
+    quantities_range = rw all.quantities (All-append (λ n. nat_abs n ≤ most_nanos) a.quantities.items b.quantities.items ca.quantities_range cb.quantities_range);
+    has_quantity = all.has_quantity ∙ rw (ca.has_quantity, cb.has_quantity, map-append) refl;
+    units = all.units ∙ rw (ca.units, cb.units) (both_codes (λ c. c.unit) (λ ns c known. known.unit));
+    skus = all.skus ∙ rw (ca.skus, cb.skus) (both_codes (λ c. c.sku) (λ ns c known. known.sku));
+    sub_accounts = all.sub_accounts ∙ rw (ca.sub_accounts, cb.sub_accounts) (both_codes (λ c. c.sub_account) (λ ns c known. known.sub_account));
+    tags = all.tags ∙ both_tags;
   }

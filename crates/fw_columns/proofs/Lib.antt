@@ -1,6 +1,6 @@
+mod AddFacts
 mod JoinFacts
 mod GroupFacts
-mod AddFacts
 pub mod KeptFacts
 pub mod PartFacts
 mod PartColumns

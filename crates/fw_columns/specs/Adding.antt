@@ -4,10 +4,10 @@ use Rattle.fw_money.specs.Amount.{most_nanos}
 use Rattle.fw_charge.specs.Codes.{category_code, class_code}
 use Rattle.fw_row_table.specs.Names.{Text}
 use Rattle.fw_row_table.specs.Codes.{text_code}
-use Rattle.fw_columns.specs.RowViews.{discount_with}
+use Rattle.fw_row_table.specs.Lending.{discount_with}
 use Rattle.fw_row_table.specs.Table.{kind_kept, status_kept, quantity_kept}
 use Rattle.fw_columns.specs.declared.adding.TextCodes.{TextCodes}
-use Rattle.fw_columns.specs.declared.row_view.RowView.{RowView}
+use Rattle.fw_row_table.specs.declared.lending.RowView.{RowView}
 use Rattle.fw_row_table.specs.declared.table.Table.{Table}
 
 -- the texts of a row but those of its tags

@@ -1,10 +1,5 @@
 -- What becomes of columns where further rows come behind. The private functions of the crate cite it.
-use Rattle.std.specs.Prelude.{◌≡◌, ◌<◌, ◌≤◌, ◌+◌, ℕ, zero, suc, List, [], ◌++◌, length, map, slice_index, All}
-use Rattle.fw_row_table.specs.Names.{place_of}
-use Rattle.fw_row_table.specs.Texts.{with_texts}
-use Rattle.fw_columns.specs.declared.joining.Plain.{Plain}
-use Rattle.fw_columns.specs.declared.joining.Coded.{Coded}
-use Rattle.fw_columns.specs.declared.joining.Listed.{Listed}
+use Rattle.std.specs.Prelude.{◌≡◌, ◌≤◌, ◌+◌, ℕ, zero, suc, List, ◌++◌, map, slice_index, All}
 use Rattle.fw_row_table.specs.declared.table.Table.{Table}
 
 -- places in one list, as places in another: for each place in the one there is that in the other
@@ -23,34 +18,22 @@ pub record AreCodesBelow (t : Table) (n : ℕ) : Type 0 where
   pub skus : All (λ code. code ≤ n) t.skus.items
   pub sub_accounts : All (λ code. code ≤ n) t.sub_accounts.items
 
--- the lists are of so many names, and each row's list is there
-pub record AreListsBelow (t : Table) (n : ℕ) : Type 0 where
-  pub lists : All (λ list. All (λ place. place < n) list) t.lists
-  pub tags : All (λ place. place < length t.lists) t.tags.items
-
--- columns without places are those of one table and then those of another
-pub record ArePlainOf (p : Plain) (a b : Table) : Type 0 where
-  pub billed : p.billed.items ≡ a.billed.items ++ b.billed.items
-  pub effective : p.effective.items ≡ a.effective.items ++ b.effective.items
-  pub categories : p.categories.items ≡ a.categories.items ++ b.categories.items
-  pub classes : p.classes.items ≡ a.classes.items ++ b.classes.items
-  pub starts : p.starts.items ≡ a.starts.items ++ b.starts.items
-  pub ends : p.ends.items ≡ a.ends.items ++ b.ends.items
-  pub kinds : p.kinds.items ≡ a.kinds.items ++ b.kinds.items
-  pub statuses : p.statuses.items ≡ a.statuses.items ++ b.statuses.items
-  pub quantities : p.quantities.items ≡ a.quantities.items ++ b.quantities.items
-  pub has_quantity : p.has_quantity.items ≡ a.has_quantity.items ++ b.has_quantity.items
-
--- columns of codes are those of one table and then those of another, by the places that the names of each have now
-pub record AreCodedOf (k : Coded) (a b : Table) (one two : List ℕ) : Type 0 where
-  pub discounts : k.discounts.items ≡ map (replaced_code one) a.discounts.items ++ map (replaced_code two) b.discounts.items
-  pub units : k.units.items ≡ map (replaced_code one) a.units.items ++ map (replaced_code two) b.units.items
-  pub skus : k.skus.items ≡ map (replaced_code one) a.skus.items ++ map (replaced_code two) b.skus.items
-  pub sub_accounts : k.sub_accounts.items ≡ map (replaced_code one) a.sub_accounts.items ++ map (replaced_code two) b.sub_accounts.items
-
--- lists are those of one table and then those of another, by the places that their texts have now; each row has the list that it had
-pub record AreListsOf (k : Listed) (a b : Table) (one two : List ℕ) : Type 0 where
-  pub lists : k.lists ≡ with_texts (with_texts [] (map (replaced one) a.lists)) (map (replaced two) b.lists)
-  pub few : length k.lists ≤ length a.lists + length b.lists
-  pub tags : k.tags.items
-      ≡ replaced (map (place_of k.lists) (map (replaced one) a.lists)) a.tags.items ++ replaced (map (place_of k.lists) (map (replaced two) b.lists)) b.tags.items
+-- the columns of a table with the values of another behind them: the codes of texts and the places of lists as they are now
+pub record HasAll (old new other : Table) (of_texts of_lists : List ℕ) : Type 0 where
+  pub names : new.names ≡ old.names
+  pub lists : new.lists ≡ old.lists
+  pub billed : new.billed.items ≡ old.billed.items ++ other.billed.items
+  pub effective : new.effective.items ≡ old.effective.items ++ other.effective.items
+  pub categories : new.categories.items ≡ old.categories.items ++ other.categories.items
+  pub classes : new.classes.items ≡ old.classes.items ++ other.classes.items
+  pub starts : new.starts.items ≡ old.starts.items ++ other.starts.items
+  pub ends : new.ends.items ≡ old.ends.items ++ other.ends.items
+  pub discounts : new.discounts.items ≡ old.discounts.items ++ map (replaced_code of_texts) other.discounts.items
+  pub kinds : new.kinds.items ≡ old.kinds.items ++ other.kinds.items
+  pub statuses : new.statuses.items ≡ old.statuses.items ++ other.statuses.items
+  pub quantities : new.quantities.items ≡ old.quantities.items ++ other.quantities.items
+  pub has_quantity : new.has_quantity.items ≡ old.has_quantity.items ++ other.has_quantity.items
+  pub units : new.units.items ≡ old.units.items ++ map (replaced_code of_texts) other.units.items
+  pub skus : new.skus.items ≡ old.skus.items ++ map (replaced_code of_texts) other.skus.items
+  pub sub_accounts : new.sub_accounts.items ≡ old.sub_accounts.items ++ map (replaced_code of_texts) other.sub_accounts.items
+  pub tags : new.tags.items ≡ old.tags.items ++ replaced of_lists other.tags.items

@@ -1,6 +1,6 @@
 pub mod Codes
 pub mod Joining
-pub mod RowViews
+pub mod Rows
 pub mod Adding
 pub mod Grouping
 pub mod Parts

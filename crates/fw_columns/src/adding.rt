@@ -3,15 +3,14 @@ ghost use Rattle.std.specs.Prelude.{◌≡◌, ◌^◌, ◌<◌, ◌≤◌, ◌+
 ghost use Rattle.fw_charge.specs.Charge.{IsCharge, last_second};
 ghost use Rattle.fw_row_table.specs.Codes.{text_code};
 ghost use Rattle.fw_row_table.specs.Texts.{with_texts};
-ghost use Rattle.fw_columns.specs.RowViews.{charge_with, tags_at};
+ghost use Rattle.fw_row_table.specs.Lending.{charge_with, tags_lent};
+ghost use Rattle.fw_columns.specs.Rows.{tags_at};
 ghost use Rattle.fw_columns.specs.Adding.{texts_of_view, AreCodesOf, HasMore};
 ghost use Rattle.fw_row_table.specs.Table.{most_column_rows, rows_of, AreColumns};
-ghost use Rattle.fw_row_table.specs.Lending.{tags_lent};
 
 use crate::codes::{kind_kept, quantity_kept, status_kept};
-use crate::row_view::RowView;
 use fw_charge::class_code;
-use fw_row_table::{LentTags, Names, Table, see_tags};
+use fw_row_table::{LentTags, Names, RowView, Table, see_tags};
 use std::alloc::AllocError;
 
 /// The codes of the texts of a row: 0 where a text is null, else 1 more than its place in the names.

@@ -1,15 +1,14 @@
 //! Columns that are made row by row.
 ghost use Rattle.std.specs.Prelude.{◌≡◌, ◌<◌, ◌≤◌, ◌++◌, [], ◌∷◌, length, OnErr, OnOk, IfOk};
 ghost use Rattle.fw_charge.specs.Charge.{IsCharge};
-ghost use Rattle.fw_columns.specs.RowViews.{charge_with, tags_at};
+ghost use Rattle.fw_row_table.specs.Lending.{charge_with, tags_lent};
+ghost use Rattle.fw_columns.specs.Rows.{tags_at};
 ghost use Rattle.fw_row_table.specs.Table.{most_column_rows};
-ghost use Rattle.fw_row_table.specs.Lending.{tags_lent};
 
 use crate::adding::{add_row, add_row_like};
 use crate::columns::Columns;
-use crate::row_view::{RowView, view_of};
 use fw_charge::{Row, Tags};
-use fw_row_table::{LentRow, LentTags, Table};
+use fw_row_table::{LentRow, LentTags, RowView, Table};
 use std::alloc::{AllocError, Global};
 use std::marker::Model;
 use std::mem::swap;
@@ -119,8 +118,7 @@ impl ColumnsBuilder {
         ensures added { OnOk result (self.new ≡ self.old ++ row.now ∷ []) }
         ensures refused { OnErr result (self.new ≡ []) }
     {
-        let view = view_of(row);
-        self.push_parts(&view, row.tags())
+        self.push_parts(&row.values(), row.tags())
     }
 
     /// The columns of the rows, of which there is one at least.

@@ -4,7 +4,7 @@ ghost use Rattle.fw_money.specs.Amount.{most_nanos};
 ghost use Rattle.fw_charge.specs.Codes.{status_code};
 ghost use Rattle.fw_charge.specs.declared.discount.DiscountKind.{DiscountKind};
 ghost use Rattle.fw_charge.specs.declared.discount.DiscountStatus.{DiscountStatus};
-ghost use Rattle.fw_columns.specs.RowViews.{discount_with};
+ghost use Rattle.fw_row_table.specs.Lending.{discount_with};
 ghost use Rattle.fw_row_table.specs.Table.{kind_kept, status_kept, quantity_kept};
 
 use fw_charge::{DiscountKind, DiscountStatus};

@@ -18,7 +18,7 @@ use crate::builder::ColumnsBuilder;
 use crate::by_hour::RowsByHour;
 use crate::by_sku::SkusByHour;
 use crate::grouping::group_codes;
-use crate::joining::{joined, joined_all};
+use crate::joining::joined;
 use fw_charge::Row;
 use fw_row_table::{Lengths, LentRow, Names, Table, fields_at, lent_row, lent_tags};
 use std::alloc::{AllocError, Global};
@@ -326,7 +326,7 @@ impl Columns {
         requires { length first.now + length second.now ≤ most_column_rows }
         ensures { IfOk result (λ columns. columns ≡ first.now ++ second.now) }
     {
-        let joined = joined(alloc, first.table(), second.table())?;
+        let joined = joined(alloc, &[first, second])?;
         let columns = Columns::of_table(alloc, joined)?;
         Ok(columns)
     }
@@ -340,7 +340,7 @@ impl Columns {
         if parts.len() == 1 {
             return parts[0].copy();
         }
-        let joined = joined_all(alloc, parts)?;
+        let joined = joined(alloc, parts)?;
         let columns = Columns::of_table(alloc, joined)?;
         Ok(columns)
     }

@@ -1,208 +1,43 @@
-//! The columns of rows and of further rows.
+//! Tables of the rows of several, in turn.
 ghost use Rattle.std.specs.Prelude.{◌≡◌, ◌≤◌, ◌<◌, ◌+◌, ◌++◌, ◌^◌, length, map, All, IfOk, OnOk};
 ghost use Rattle.fw_row_table.specs.Names.{place_of};
 ghost use Rattle.fw_row_table.specs.Texts.{with_texts};
 ghost use Rattle.fw_row_table.specs.Table.{most_column_rows, rows_of, AreColumns};
 ghost use Rattle.std.specs.List.{flat_map};
-ghost use Rattle.fw_columns.specs.Joining.{replaced, replaced_code, AreCodesBelow, AreListsBelow, ArePlainOf, AreCodedOf, AreListsOf};
+ghost use Rattle.fw_columns.specs.Joining.{replaced, replaced_code, AreCodesBelow, HasAll};
 
 use crate::columns::Columns;
-use fw_row_table::{Lists, Table, joined_names, places_in};
+use fw_row_table::{Lists, Table, see_names};
 use std::alloc::{AllocError, Global};
 
-/// Columns without places of texts.
-#[derive(Drop)]
-pub struct Plain {
-    pub billed: Vec<i64>,
-    pub effective: Vec<i64>,
-    pub categories: Vec<u8>,
-    pub classes: Vec<u8>,
-    pub starts: Vec<i64>,
-    pub ends: Vec<u64>,
-    pub kinds: Vec<u8>,
-    pub statuses: Vec<u8>,
-    pub quantities: Vec<i64>,
-    pub has_quantity: Vec<bool>,
-}
-
-/// Columns of codes of texts.
-#[derive(Drop)]
-pub struct Coded {
-    pub discounts: Vec<u32>,
-    pub units: Vec<u32>,
-    pub skus: Vec<u32>,
-    pub sub_accounts: Vec<u32>,
-}
-
-/// The lists of tags of rows, each once, and for each row the place of its list.
-#[derive(Drop)]
-pub struct Listed {
-    pub lists: Lists,
-    pub tags: Vec<u32>,
-}
-
-/// The columns of the rows of one table and then those of another.
-pub fn joined(alloc: Global, first: &Table, second: &Table) -> Result<Table, AllocError>
-    requires first { AreColumns first.now (rows_of first.now) }
-    requires second { AreColumns second.now (rows_of second.now) }
-    requires few { length (rows_of first.now) + length (rows_of second.now) ≤ most_column_rows }
-    ensures { IfOk result (λ table. AreColumns table (rows_of first.now ++ rows_of second.now)) }
-{
-    let names = joined_names(alloc, &first.names, &second.names)?;
-    let one = places_in(alloc, &names, &first.names)?;
-    let two = places_in(alloc, &names, &second.names)?;
-    let plain = joined_plain(alloc, first, second)?;
-    let coded = joined_coded(alloc, first, one.as_slice(), second, two.as_slice())?;
-    let listed = joined_lists(alloc, first, one.as_slice(), second, two.as_slice())?;
-    Ok(Table {
-        names,
-        lists: listed.lists,
-        billed: plain.billed,
-        effective: plain.effective,
-        categories: plain.categories,
-        classes: plain.classes,
-        starts: plain.starts,
-        ends: plain.ends,
-        discounts: coded.discounts,
-        kinds: plain.kinds,
-        statuses: plain.statuses,
-        quantities: plain.quantities,
-        has_quantity: plain.has_quantity,
-        units: coded.units,
-        skus: coded.skus,
-        sub_accounts: coded.sub_accounts,
-        tags: listed.tags,
-    })
-}
-
-/// The table of the rows of one table and then those of another.
-fn both(alloc: Global, first: &Table, second: &Table) -> Result<Table, AllocError>
-    requires first { AreColumns first.now (rows_of first.now) }
-    requires second { AreColumns second.now (rows_of second.now) }
-    requires few { length (rows_of first.now) + length (rows_of second.now) ≤ most_column_rows }
-    ensures rows { IfOk result (λ table.
-        rows_of table ≡ rows_of first.now ++ rows_of second.now) }
-    ensures as_many { IfOk result (λ table.
-        length (rows_of first.now) ≤ length (rows_of table)) }
-    ensures columns { IfOk result (λ table. AreColumns table (rows_of table)) }
-{
-    let table = joined(alloc, first, second)?;
-    Ok(table)
-}
-
-/// The table of the rows of three tables in turn.
-fn three(alloc: Global, first: &Table, second: &Table, third: &Table) -> Result<Table, AllocError>
-    requires first { AreColumns first.now (rows_of first.now) }
-    requires second { AreColumns second.now (rows_of second.now) }
-    requires third { AreColumns third.now (rows_of third.now) }
-    requires few { length (rows_of first.now) + length (rows_of second.now)
-        + length (rows_of third.now) ≤ most_column_rows }
-    ensures rows { IfOk result (λ table.
-        rows_of table ≡ rows_of first.now ++ (rows_of second.now ++ rows_of third.now)) }
-    ensures as_many { IfOk result (λ table.
-        length (rows_of first.now) ≤ length (rows_of table)) }
-    ensures columns { IfOk result (λ table. AreColumns table (rows_of table)) }
-{
-    let last = both(alloc, second, third)?;
-    let table = both(alloc, first, &last)?;
-    Ok(table)
-}
-
-/// The halves of four parts or more.
-fn halves<'a, 'c>(parts: &'a [&'c Columns]) -> (&'a [&'c Columns], &'a [&'c Columns])
-    requires { 4 ≤ length parts.now }
-    ensures front { (2 ≤ length result.0.now) × (length result.0.now < length parts.now) }
-    ensures back { (2 ≤ length result.1.now) × (length result.1.now < length parts.now) }
-    ensures rows { flat_map (λ part. part.now) parts.now
-        ≡ flat_map (λ part. part.now) result.0.now ++ flat_map (λ part. part.now) result.1.now }
-    ensures count { length (flat_map (λ part. part.now) parts.now)
-        ≡ length (flat_map (λ part. part.now) result.0.now)
-        + length (flat_map (λ part. part.now) result.1.now) }
-{
-    parts.split_at(parts.len() / 2)
-}
-
-/// The table of the rows of two or more in turn. Halves are joined, so that no row is copied more often than their number can be halved.
-pub fn joined_all(alloc: Global, parts: &[&Columns]) -> Result<Table, AllocError>
-    requires two { 2 ≤ length parts.now }
+/// The table of the rows of each in turn. Those of the first come first, and the others go behind them: the codes of what is there stay, and each row is
+/// copied once.
+pub fn joined(alloc: Global, parts: &[&Columns]) -> Result<Table, AllocError>
+    requires some { 0 < length parts.now }
     requires few { length (flat_map (λ part. part.now) parts.now) ≤ most_column_rows }
     ensures rows { IfOk result (λ table.
         rows_of table ≡ flat_map (λ part. part.now) parts.now) }
     ensures some { IfOk result (λ table. 0 < length (rows_of table)) }
     ensures columns { IfOk result (λ table. AreColumns table (rows_of table)) }
 {
-    match parts {
-        [first, second] => both(alloc, first.table(), second.table()),
-        [first, second, third] => three(alloc, first.table(), second.table(), third.table()),
-        _ => {
-            let (front, back) = halves(parts);
-            let front = joined_all(alloc, front)?;
-            let back = joined_all(alloc, back)?;
-            both(alloc, &front, &back)
-        }
+    let mut table = Table::empty(alloc);
+    for part in parts {
+        append(alloc, &mut table, part.table())?;
     }
+    Ok(table)
 }
 
-/// The columns without places of two tables in turn.
-fn joined_plain(alloc: Global, first: &Table, second: &Table) -> Result<Plain, AllocError>
-    ensures { IfOk result (λ plain. ArePlainOf plain first.now second.now) }
+/// Adds the rows of another table.
+fn append(alloc: Global, table: &mut Table, other: &Table) -> Result<(), AllocError>
+    requires first { AreColumns table.old (rows_of table.old) }
+    requires second { AreColumns other.now (rows_of other.now) }
+    requires few { length (rows_of table.old) + length (rows_of other.now) ≤ most_column_rows }
+    ensures { OnOk result (AreColumns table.new (rows_of table.old ++ rows_of other.now)) }
 {
-    Ok(Plain {
-        billed: joined_values(alloc, &first.billed, &second.billed)?,
-        effective: joined_values(alloc, &first.effective, &second.effective)?,
-        categories: joined_values(alloc, &first.categories, &second.categories)?,
-        classes: joined_values(alloc, &first.classes, &second.classes)?,
-        starts: joined_values(alloc, &first.starts, &second.starts)?,
-        ends: joined_values(alloc, &first.ends, &second.ends)?,
-        kinds: joined_values(alloc, &first.kinds, &second.kinds)?,
-        statuses: joined_values(alloc, &first.statuses, &second.statuses)?,
-        quantities: joined_values(alloc, &first.quantities, &second.quantities)?,
-        has_quantity: joined_values(alloc, &first.has_quantity, &second.has_quantity)?,
-    })
-}
-
-/// The columns of codes of two tables in turn, by the places that their names have now.
-fn joined_coded(
-    alloc: Global,
-    first: &Table,
-    one: &[u32],
-    second: &Table,
-    two: &[u32],
-) -> Result<Coded, AllocError>
-    requires first { AreCodesBelow first.now (length one.now) }
-    requires one { All (λ place. place ≤ 2 ^ 30) one.now }
-    requires second { AreCodesBelow second.now (length two.now) }
-    requires two { All (λ place. place ≤ 2 ^ 30) two.now }
-    ensures { IfOk result (λ coded. AreCodedOf coded first.now second.now one.now two.now) }
-{
-    Ok(Coded {
-        discounts: joined_codes(alloc, &first.discounts, one, &second.discounts, two)?,
-        units: joined_codes(alloc, &first.units, one, &second.units, two)?,
-        skus: joined_codes(alloc, &first.skus, one, &second.skus, two)?,
-        sub_accounts: joined_codes(alloc, &first.sub_accounts, one, &second.sub_accounts, two)?,
-    })
-}
-
-/// The lists of tags of two tables in turn, by the places that their texts have now.
-fn joined_lists(
-    alloc: Global,
-    first: &Table,
-    one: &[u32],
-    second: &Table,
-    two: &[u32],
-) -> Result<Listed, AllocError>
-    requires first { AreListsBelow first.now (length one.now) }
-    requires second { AreListsBelow second.now (length two.now) }
-    requires few { length first.now.lists + length second.now.lists ≤ 2 ^ 30 }
-    ensures { IfOk result (λ listed. AreListsOf listed first.now second.now one.now two.now) }
-{
-    let mut lists = Lists::new(alloc);
-    let mut tags = Vec::with_capacity(alloc, first.tags.len().saturating_add(second.tags.len()))?;
-    let ones = see_lists(alloc, &mut lists, &first.lists, one)?;
-    push_replaced(&mut tags, first.tags.as_slice(), ones.as_slice())?;
-    let twos = see_lists(alloc, &mut lists, &second.lists, two)?;
-    push_replaced(&mut tags, second.tags.as_slice(), twos.as_slice())?;
-    Ok(Listed { lists, tags })
+    let texts = see_names(alloc, &mut table.names, &other.names)?;
+    let lists = see_lists(alloc, &mut table.lists, &other.lists, texts.as_slice())?;
+    push_columns(table, other, texts.as_slice(), lists.as_slice())?;
+    Ok(())
 }
 
 /// Adds those of other lists that are new, by the places that their texts have now. Returns the place of each.
@@ -242,35 +77,34 @@ pub fn push_replaced(column: &mut Vec<u32>, list: &[u32], places: &[u32]) -> Res
     Ok(())
 }
 
-/// The values of two columns in turn.
-fn joined_values<T: Copy>(alloc: Global, first: &[T], second: &[T]) -> Result<Vec<T>, AllocError>
-    ensures { IfOk result (λ column. column.items ≡ first.now ++ second.now) }
+/// Adds the values of another table to each column: the codes of texts and the places of lists as they are now.
+fn push_columns(
+    table: &mut Table,
+    other: &Table,
+    texts: &[u32],
+    lists: &[u32],
+) -> Result<(), AllocError>
+    requires codes { AreCodesBelow other.now (length texts.now) }
+    requires texts { All (λ place. place ≤ 2 ^ 30) texts.now }
+    requires lists { All (λ place. place < length lists.now) other.now.tags.items }
+    ensures { OnOk result (HasAll table.old table.new other.now texts.now lists.now) }
 {
-    let mut column = Vec::with_capacity(alloc, first.len().saturating_add(second.len()))?;
-    column.extend_from_slice(first)?;
-    column.extend_from_slice(second)?;
-    Ok(column)
-}
-
-/// The codes of two columns in turn, by the places that their names have now.
-fn joined_codes(
-    alloc: Global,
-    first: &[u32],
-    one: &[u32],
-    second: &[u32],
-    two: &[u32],
-) -> Result<Vec<u32>, AllocError>
-    requires first { All (λ code. code ≤ length one.now) first.now }
-    requires one { All (λ place. place ≤ 2 ^ 30) one.now }
-    requires second { All (λ code. code ≤ length two.now) second.now }
-    requires two { All (λ place. place ≤ 2 ^ 30) two.now }
-    ensures { IfOk result (λ column. column.items
-        ≡ map (replaced_code one.now) first.now ++ map (replaced_code two.now) second.now) }
-{
-    let mut column = Vec::with_capacity(alloc, first.len().saturating_add(second.len()))?;
-    push_codes(&mut column, first, one)?;
-    push_codes(&mut column, second, two)?;
-    Ok(column)
+    table.billed.extend_from_slice(&other.billed)?;
+    table.effective.extend_from_slice(&other.effective)?;
+    table.categories.extend_from_slice(&other.categories)?;
+    table.classes.extend_from_slice(&other.classes)?;
+    table.starts.extend_from_slice(&other.starts)?;
+    table.ends.extend_from_slice(&other.ends)?;
+    push_codes(&mut table.discounts, &other.discounts, texts)?;
+    table.kinds.extend_from_slice(&other.kinds)?;
+    table.statuses.extend_from_slice(&other.statuses)?;
+    table.quantities.extend_from_slice(&other.quantities)?;
+    table.has_quantity.extend_from_slice(&other.has_quantity)?;
+    push_codes(&mut table.units, &other.units, texts)?;
+    push_codes(&mut table.skus, &other.skus, texts)?;
+    push_codes(&mut table.sub_accounts, &other.sub_accounts, texts)?;
+    push_replaced(&mut table.tags, &other.tags, lists)?;
+    Ok(())
 }
 
 /// Adds codes, by the places that their names have now.

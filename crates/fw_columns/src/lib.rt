@@ -18,12 +18,10 @@ mod kept;
 mod laws;
 mod parts;
 mod row_lists;
-mod row_view;
 
 pub use builder::ColumnsBuilder;
 pub use columns::Columns;
-pub use fw_row_table::{LentDiscount, LentRow, LentTag, LentTags, Names};
+pub use fw_row_table::{LentDiscount, LentRow, LentTag, LentTags, Names, RowView};
 pub use laws::limits_agree;
 pub use parts::Parts;
 pub use row_lists::RowLists;
-pub use row_view::RowView;

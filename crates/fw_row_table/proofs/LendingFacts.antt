@@ -1,10 +1,14 @@
 -- What lent rows read of columns.
-use Rattle.std.proofs.Common.{◌≡◌, ℕ, zero, suc, true, false, ◌+◌, ◌<◌, ◌≤◌, ◌/◌, List, [], ◌∷◌, length, drop, get_or, Option, Some, None, refl, arith}
+use Rattle.std.proofs.Common.{◌≡◌, ℕ, zero, suc, true, false, ◌+◌, ◌<◌, ◌≤◌, ◌/◌, List, [], ◌∷◌, length, drop, get_or, Option, Some, None, refl, ap, ◌∙◌, arith}
 use Rattle.std.specs.Str.{bytes_eq}
 use Rattle.fw_charge.specs.Tags.{TagText, tag_under, value_under, group_of}
 use Rattle.fw_row_table.specs.Names.{Text}
 use Rattle.fw_charge.specs.Codes.{status_of}
-use Rattle.fw_row_table.specs.Lending.{discount_shown}
+use Rattle.fw_charge.specs.declared.discount.DiscountKind.{DiscountKind}
+use Rattle.fw_charge.specs.declared.discount.DiscountStatus.{DiscountStatus}
+use Rattle.std.specs.Borrow.{Bor}
+use Rattle.std.specs.Prelude.{option_copied}
+use Rattle.fw_row_table.specs.Lending.{discount_with}
 use Rattle.fw_row_table.specs.Table.{discount_of, kind_at, tag_of, tags_of}
 
 pub group_first : (key : Text) (t : TagText) (ts : List TagText) → bytes_eq t.key key ≡ true → group_of key (t ∷ ts) ≡ t.value
@@ -19,10 +23,13 @@ pub group_nowhere : (key : Text) → group_of key [] ≡ []
 unfolding group_of value_under tag_under
 group_nowhere key = refl
 
-pub discount_kept : (id : Option Text) (kind status : ℕ) → discount_shown id (kind_at kind) (status_of status) ≡ discount_of id kind status
-unfolding discount_shown discount_of
-discount_kept None kind status = refl
-discount_kept (Some id) kind status = refl
+-- the discount that is lent of codes is the one that they stand for
+pub discount_kept : (id : Option (Bor Text)) (kind : DiscountKind) (status : Option DiscountStatus) (text : Option Text) (k s : ℕ) → option_copied id ≡ text → kind ≡ kind_at k → status ≡ status_of s
+    → discount_with id kind status ≡ discount_of text k s
+unfolding discount_of
+discount_kept None kind status text k s is kind_is status_is = ap (λ (t : Option Text). discount_of t k s) is
+discount_kept (Some id) kind status text k s is kind_is status_is =
+    (λ j. Some (record { id = id.now; kind = kind_is j; status = status_is j })) ∙ ap (λ (t : Option Text). discount_of t k s) is
 
 pub tags_counted : (names : List Text) (places : List ℕ) → length places / 2 ≡ length (tags_of names places)
 unfolding tags_of

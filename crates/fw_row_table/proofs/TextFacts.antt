@@ -1,13 +1,12 @@
 -- Facts on the names of texts: each text has its place, and a place stays while more texts come.
-use Rattle.std.proofs.Common.{◌≡◌, ℕ, ◌+◌, ◌<◌, ◌≤◌, Bool, true, false, List, [], ◌∷◌, ◌++◌, length, map, take, refl, sym, ap, ◌∙◌, arith, append_assoc, length-append, true≢false, subst}
-use Rattle.std.proofs.lemmas.Option.{slice_get_within, get_or_from_slice_get}
-use Rattle.std.specs.Prelude.{All, slice_get, Some, option_map, option_to_list}
+use Rattle.std.proofs.Common.{◌≡◌, ◌+◌, ◌<◌, ◌≤◌, Bool, true, false, List, [], ◌∷◌, ◌++◌, length, map, refl, sym, ap, ◌∙◌, arith, append_assoc, length-append, true≢false, subst}
+use Rattle.std.specs.Prelude.{All, option_map, option_to_list}
 use Rattle.std.specs.List.{list_any, position_or_len, flat_map}
 use Rattle.std.specs.Cmp.Lexicographic.{bytes_decides}
 use Rattle.fw_row_table.proofs.NameFacts.{place-missing}
 use Rattle.std.proofs.lemmas.List.Elements.{All-nil, All-cons}
 use Rattle.std.specs.Str.{bytes_eq}
-use Rattle.std.proofs.lemmas.List.{append-nil, take_more, map_push, map-id}
+use Rattle.std.proofs.lemmas.List.{append-nil, map_push, map-id}
 use Rattle.std.proofs.lemmas.Grind.{fold-append, flat_map-append}
 use Rattle.fw_charge.specs.Tags.{TagText}
 use Rattle.fw_charge.specs.Charge.{Charge}
@@ -142,11 +141,6 @@ tags_then tags t =
     let texts = λ (t : TagText). t.key ∷ t.value ∷ [] in
     append_assoc (flat_map texts tags) (t.key ∷ []) (t.value ∷ []) ∙ sym (flat_map-append texts tags (t ∷ []))
 
--- one more of other names
-pub seen_more : (names other : List Text) (i : ℕ) (t : Text) → slice_get other i ≡ Some t → with_texts (with_texts names (take i other)) (t ∷ []) ≡ with_texts names (take (i + 1) other)
-seen_more names other i t e =
-    rw (take_more other i [] (slice_get_within other i t e), get_or_from_slice_get other i t [] e) (sym (with_texts-append names (take i other) (t ∷ [])))
-
 -- where the images of some texts are known, so is that of a text among them
 among_known : (r : Text → Text) (names ms : List Text) (t : Text) → AreKnown names (map r ms) → list_any (bytes_eq t) ms ≡ true → IsKnown names (r t)
 among_known r names [] t known h = absurd (true≢false (sym h))
@@ -174,19 +168,18 @@ unfolding with_texts
 with_texts-image r names ms [] = refl
 with_texts-image r names ms (t ∷ ts) = with_texts-image r names (with_text ms t) ts ∙ ap (λ ns. with_texts ns (map r ts)) (with_text-image r names ms t)
 
-pub images_in_turn : (r s : Text → Text) (xs ys : List Text) → with_texts (with_texts [] (map r (with_texts [] xs))) (map s (with_texts [] ys)) ≡ with_texts [] (map r xs ++ map s ys)
+pub images_behind : (r : Text → Text) (names ts : List Text) → with_texts names (map r (with_texts [] ts)) ≡ with_texts names (map r ts)
 unfolding with_texts
-images_in_turn r s xs ys =
-    with_texts-image s (with_texts [] (map r (with_texts [] xs))) [] ys
-    ∙ (ap (λ ns. with_texts ns (map s ys)) (with_texts-image r [] [] xs) ∙ sym (with_texts-append [] (map r xs) (map s ys)))
+images_behind r names ts = with_texts-image r names [] ts
 
 -- the names of rows and of further rows are those of all
-pub names_of-append : (xs ys : List Charge) → with_texts (with_texts [] (names_of xs)) (names_of ys) ≡ names_of (xs ++ ys)
+pub names_of-append : (xs ys : List Charge) → with_texts (names_of xs) (names_of ys) ≡ names_of (xs ++ ys)
 unfolding names_of
 names_of-append xs ys =
-    let same = λ (t : Text). t in
     let texts = flat_map texts_of xs in
     let more = flat_map texts_of ys in
-    (λ j. with_texts (with_texts [] (sym (map-id (with_texts [] texts)) j)) (sym (map-id (with_texts [] more)) j))
-    ∙ (images_in_turn same same texts more
-    ∙ ((λ j. with_texts [] (map-id texts j ++ map-id more j)) ∙ ap (with_texts []) (sym (flat_map-append texts_of xs ys))))
+    let names = with_texts [] texts in
+    (λ j. with_texts names (sym (map-id (with_texts [] more)) j))
+    ∙ (images_behind (λ t. t) names more
+    ∙ ((λ j. with_texts names (map-id more j))
+    ∙ (sym (with_texts-append [] texts more) ∙ ap (with_texts []) (sym (flat_map-append texts_of xs ys)))))

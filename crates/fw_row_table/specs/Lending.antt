@@ -1,23 +1,24 @@
 -- Lent rows: what their fields stand for.
-use Rattle.std.specs.Prelude.{ℕ, List, [], ◌∷◌, Option, Some, None, option_copied, IsUtf8}
+use Rattle.std.specs.Prelude.{List, [], ◌∷◌, Option, Some, None, option_copied, option_map, IsUtf8}
+use Rattle.std.specs.Borrow.{Bor}
 use Rattle.fw_charge.specs.Charge.{Charge, DiscountText}
 use Rattle.fw_charge.specs.Tags.{TagText}
 use Rattle.fw_charge.specs.declared.discount.DiscountKind.{DiscountKind}
 use Rattle.fw_charge.specs.declared.discount.DiscountStatus.{DiscountStatus}
 use Rattle.fw_row_table.specs.Table.{tags_of}
 use Rattle.fw_row_table.specs.declared.lending.LentDiscount.{LentDiscount}
-use Rattle.fw_row_table.specs.declared.lending.LentFields.{LentFields}
 use Rattle.fw_row_table.specs.declared.lending.LentTag.{LentTag}
 use Rattle.fw_row_table.specs.declared.lending.LentTags.{LentTags}
 use Rattle.fw_row_table.specs.declared.lending.LentTags.TheVariants as tags
+use Rattle.fw_row_table.specs.declared.lending.RowView.{RowView}
+use Rattle.fw_row_table.specs.Names.{Text}
 
 abbrev pub discount_lent : LentDiscount → DiscountText
 discount_lent d = record { id = d.id.now; kind = d.kind; status = d.status }
 
--- a discount with an id that may be null
-unfoldable pub discount_shown : Option (List ℕ) → DiscountKind → Option DiscountStatus → Option DiscountText
-discount_shown None kind status = None
-discount_shown (Some id) kind status = Some (record { id = id; kind = kind; status = status })
+-- the discount with an id that may be null, and with this kind and this status
+abbrev pub discount_with : Option (Bor Text) → DiscountKind → Option DiscountStatus → Option DiscountText
+discount_with id kind status = option_map (λ i. record { id = i.now; kind = kind; status = status }) id
 
 abbrev pub tag_lent : LentTag → TagText
 tag_lent t = record { key = t.key.now; value = t.value.now }
@@ -32,20 +33,21 @@ unfoldable pub tags_split : Option (LentTag × LentTags) → List TagText
 tags_split None = []
 tags_split (Some first) = tag_lent first.0 ∷ tags_lent first.1
 
-abbrev pub row_lent : LentFields → Charge
-row_lent fields = record {
-  billed = fields.billed;
-  effective = fields.effective;
-  category = fields.category;
-  is_correction = fields.is_correction;
-  start = fields.start;
-  end = fields.end;
-  discount = discount_shown (option_copied fields.discount) fields.kind fields.status;
-  quantity = fields.quantity;
-  unit = option_copied fields.unit;
-  sku = option_copied fields.sku;
-  sub_account = option_copied fields.sub_account;
-  tags = tags_lent fields.tags;
+-- the row with these values and these tags
+abbrev pub charge_with : RowView → List TagText → Charge
+charge_with row tags = record {
+  billed = row.billed;
+  effective = row.effective;
+  category = row.category;
+  is_correction = row.is_correction;
+  start = row.start;
+  end = row.end;
+  discount = discount_with row.discount row.kind row.status;
+  quantity = row.quantity;
+  unit = option_copied row.unit;
+  sku = option_copied row.sku;
+  sub_account = option_copied row.sub_account;
+  tags = tags;
 }
 
 -- a tag whose key and text are UTF-8

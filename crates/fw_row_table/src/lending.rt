@@ -2,7 +2,7 @@
 ghost use Rattle.std.specs.Prelude.{◌≡◌, ◌≤◌, length, option_copied, option_map};
 ghost use Rattle.fw_charge.specs.Charge.{IsCharge};
 ghost use Rattle.fw_charge.specs.Tags.{group_of, IsTags};
-ghost use Rattle.fw_row_table.specs.Lending.{discount_lent, discount_shown, row_lent, tags_lent, tags_split};
+ghost use Rattle.fw_row_table.specs.Lending.{charge_with, discount_lent, discount_with, tags_lent, tags_split};
 ghost use Rattle.fw_row_table.specs.Reading.{HasRow};
 ghost use Rattle.fw_row_table.specs.Table.{charge_at, list_at, tags_of, text_at, text_of};
 
@@ -43,9 +43,9 @@ pub enum LentTags<'a> {
     Listed { names: &'a Names, list: &'a [u32] },
 }
 
-/// The fields of a lent row. An `Option` is `None` where the column is null.
+/// The values of a charge row but its tags. Its texts are lent. An `Option` is `None` where the column is null.
 #[derive(Clone, Copy, Debug, Drop)]
-pub struct LentFields<'a> {
+pub struct RowView<'a> {
     /// BilledCost, in nanos.
     pub billed: Nanos,
     /// EffectiveCost, in nanos.
@@ -58,11 +58,11 @@ pub struct LentFields<'a> {
     pub start: u64,
     /// ChargePeriodEnd: the second after the charge period, counted from 1970.
     pub end: u64,
-    /// The id of the commitment discount that the row belongs to.
+    /// CommitmentDiscountId: the commitment discount that the row belongs to.
     pub discount: Option<&'a str>,
-    /// Its kind; any kind where there is no discount.
+    /// CommitmentDiscountCategory. It counts only where there is a discount.
     pub kind: DiscountKind,
-    /// Its status; any status where there is no discount.
+    /// CommitmentDiscountStatus. It counts only where there is a discount.
     pub status: Option<DiscountStatus>,
     /// ConsumedQuantity, in nanos of its unit.
     pub quantity: Option<Nanos>,
@@ -72,58 +72,66 @@ pub struct LentFields<'a> {
     pub sku: Option<&'a str>,
     /// SubAccountId.
     pub sub_account: Option<&'a str>,
-    /// Tags.
-    pub tags: LentTags<'a>,
+}
+
+impl<'a> RowView<'a> {
+    // The same values. Each is named, which the borrow checker asks for of what is lent.
+    #[inline(always)]
+    fn again(&self) -> RowView<'a>
+        ensures { result ≡ self.now }
+    {
+        RowView {
+            billed: self.billed,
+            effective: self.effective,
+            category: self.category,
+            is_correction: self.is_correction,
+            start: self.start,
+            end: self.end,
+            discount: self.discount,
+            kind: self.kind,
+            status: self.status,
+            quantity: self.quantity,
+            unit: self.unit,
+            sku: self.sku,
+            sub_account: self.sub_account,
+        }
+    }
 }
 
 /// A charge row whose texts and tags are lent. A contract sees the row, as it does that of a [`Row`].
 #[derive(Debug, Drop)]
 pub struct LentRow<'a> {
-    fields: LentFields<'a>,
+    values: RowView<'a>,
+    tags: LentTags<'a>,
 }
 
 impl<'a> Model for LentRow<'a> {
     ghost use Rattle.fw_charge.specs.Charge.{Charge, IsCharge};
-    ghost use Rattle.fw_row_table.specs.Lending.{row_lent};
+    ghost use Rattle.fw_row_table.specs.Lending.{charge_with, tags_lent};
 
     ghost Value = { Charge };
 
-    ghost view = { λ r. row_lent r.fields };
+    ghost view = { λ r. charge_with r.values (tags_lent r.tags) };
 
-    ghost invariant = { λ r. IsCharge (row_lent r.fields) };
+    ghost invariant = { λ r. IsCharge (charge_with r.values (tags_lent r.tags)) };
 }
 
 impl<'a> LentRow<'a> {
     ghost use Rattle.fw_charge.specs.Charge.{IsCharge, hour_of};
 
-    /// The row with these fields, which keep the rules of a row.
+    /// The row with these values and these tags, which together keep the rules of a row.
     #[inline(always)]
-    pub(crate) fn of_fields(fields: LentFields<'a>) -> LentRow<'a>
-        requires { IsCharge (row_lent fields) }
-        ensures { result ≡ row_lent fields.entry }
+    pub(crate) fn of_parts(values: &RowView<'a>, tags: LentTags<'a>) -> LentRow<'a>
+        requires { IsCharge (charge_with values.now (tags_lent tags)) }
+        ensures { result ≡ charge_with values.now (tags_lent tags.entry) }
     {
         LentRow {
-            fields: LentFields {
-                billed: fields.billed,
-                effective: fields.effective,
-                category: fields.category,
-                is_correction: fields.is_correction,
-                start: fields.start,
-                end: fields.end,
-                discount: fields.discount,
-                kind: fields.kind,
-                status: fields.status,
-                quantity: fields.quantity,
-                unit: fields.unit,
-                sku: fields.sku,
-                sub_account: fields.sub_account,
-                tags: fields.tags,
-            },
+            values: values.again(),
+            tags,
         }
     }
 
     /// A row, lent.
-    #[tactic(auto, unfolding(crate::specs::Lending::discount_shown))]
     pub fn of_row(row: &'a Row) -> LentRow<'a>
         ensures { result ≡ row.now }
     {
@@ -142,10 +150,10 @@ impl<'a> LentRow<'a> {
         kind: DiscountKind,
         status: Option<DiscountStatus>,
     ) -> LentRow<'a>
-        requires { discount_shown (option_copied id) kind status ≡ row.now.discount }
+        requires { discount_with id kind status ≡ row.now.discount }
         ensures { result ≡ row.now }
     {
-        LentRow::of_fields(LentFields {
+        let values = RowView {
             billed: row.billed(),
             effective: row.effective(),
             category: row.category(),
@@ -159,36 +167,44 @@ impl<'a> LentRow<'a> {
             unit: row.unit(),
             sku: row.sku(),
             sub_account: row.sub_account(),
-            tags: LentTags::of_tags(row.tags()),
-        })
+        };
+        LentRow::of_parts(&values, LentTags::of_tags(row.tags()))
+    }
+
+    /// The values of the row but its tags.
+    pub fn values(&self) -> RowView<'a>
+        ensures row { charge_with result self.now.tags ≡ self.now }
+        ensures valid { IsCharge self.now }
+    {
+        self.values.again()
     }
 
     /// BilledCost: the cost that is the basis of an invoice, in nanos.
     pub fn billed(&self) -> Nanos
         ensures { result ≡ self.now.billed }
     {
-        self.fields.billed
+        self.values.billed
     }
 
     /// EffectiveCost: the cost with prepaid purchases spread over what they paid for, in nanos.
     pub fn effective(&self) -> Nanos
         ensures { result ≡ self.now.effective }
     {
-        self.fields.effective
+        self.values.effective
     }
 
     /// ChargeCategory: what kind of charge the row is.
     pub fn category(&self) -> Category
         ensures { result ≡ self.now.category }
     {
-        self.fields.category
+        self.values.category
     }
 
     /// ChargeClass: whether the row corrects a charge of an earlier billing period.
     pub fn is_correction(&self) -> bool
         ensures { result ≡ self.now.is_correction }
     {
-        self.fields.is_correction
+        self.values.is_correction
     }
 
     /// ChargePeriodStart: the first second of the charge period, counted from 1970.
@@ -196,7 +212,7 @@ impl<'a> LentRow<'a> {
         ensures value { result ≡ self.now.start }
         ensures valid { IsCharge self.now }
     {
-        self.fields.start
+        self.values.start
     }
 
     /// ChargePeriodEnd: the second after the charge period, counted from 1970.
@@ -204,7 +220,7 @@ impl<'a> LentRow<'a> {
         ensures value { result ≡ self.now.end }
         ensures valid { IsCharge self.now }
     {
-        self.fields.end
+        self.values.end
     }
 
     /// The hour of the row: that of its first second. Hour 0 begins with 1970.
@@ -212,20 +228,19 @@ impl<'a> LentRow<'a> {
     pub fn hour(&self) -> u32
         ensures { result ≡ hour_of self.now.start }
     {
-        hour_of(self.fields.start) as u32
+        hour_of(self.values.start) as u32
     }
 
     /// The commitment discount that the row belongs to.
-    #[tactic(auto, unfolding(crate::specs::Lending::discount_shown))]
     pub fn discount(&self) -> Option<LentDiscount<'a>>
         ensures value { option_map discount_lent result ≡ self.now.discount }
         ensures valid { IsCharge self.now }
     {
-        match self.fields.discount {
+        match self.values.discount {
             Some(id) => Some(LentDiscount {
                 id,
-                kind: self.fields.kind,
-                status: self.fields.status,
+                kind: self.values.kind,
+                status: self.values.status,
             }),
             None => None,
         }
@@ -235,28 +250,28 @@ impl<'a> LentRow<'a> {
     pub fn quantity(&self) -> Option<Nanos>
         ensures { result ≡ self.now.quantity }
     {
-        self.fields.quantity
+        self.values.quantity
     }
 
     /// ConsumedUnit: the unit of the quantity.
     pub fn unit(&self) -> Option<&'a str>
         ensures { option_copied result ≡ self.now.unit }
     {
-        self.fields.unit
+        self.values.unit
     }
 
     /// SkuId: what was sold.
     pub fn sku(&self) -> Option<&'a str>
         ensures { option_copied result ≡ self.now.sku }
     {
-        self.fields.sku
+        self.values.sku
     }
 
     /// SubAccountId: the part of the account that the charge falls to.
     pub fn sub_account(&self) -> Option<&'a str>
         ensures { option_copied result ≡ self.now.sub_account }
     {
-        self.fields.sub_account
+        self.values.sub_account
     }
 
     /// Tags: the keys and texts that the customer gave.
@@ -264,7 +279,7 @@ impl<'a> LentRow<'a> {
         ensures value { tags_lent result ≡ self.now.tags }
         ensures valid { IsCharge self.now }
     {
-        self.fields.tags
+        self.tags
     }
 }
 
@@ -406,7 +421,7 @@ pub fn lent_row<'a>(table: &'a Table, tags: LentTags<'a>, place: usize) -> LentR
     ensures { result ≡ charge_at table.now place }
 {
     let names = &table.names;
-    LentRow::of_fields(LentFields {
+    let values = RowView {
         billed: amount_at(table.billed.as_slice(), place),
         effective: amount_at(table.effective.as_slice(), place),
         category: category_at(table.categories.as_slice(), place),
@@ -423,6 +438,6 @@ pub fn lent_row<'a>(table: &'a Table, tags: LentTags<'a>, place: usize) -> LentR
         unit: text_lent(names, table.units[place]),
         sku: text_lent(names, table.skus[place]),
         sub_account: text_lent(names, table.sub_accounts[place]),
-        tags,
-    })
+    };
+    LentRow::of_parts(&values, tags)
 }

@@ -16,10 +16,10 @@ mod table;
 mod table_lengths;
 
 pub use codes::quantity_of;
-pub use lending::{LentDiscount, LentRow, LentTag, LentTags, lent_row, lent_tags};
+pub use lending::{LentDiscount, LentRow, LentTag, LentTags, RowView, lent_row, lent_tags};
 pub use lists::Lists;
 pub use names::Names;
-pub use naming::{joined_names, places_in, see_tags};
+pub use naming::{see_names, see_tags};
 pub use packed::Packed;
 pub use reading::{amount_at, category_at, class_at, fields_at};
 pub use table::Table;

@@ -1,5 +1,5 @@
 //! The names of texts, and the lists of the places of tags.
-ghost use Rattle.std.specs.Prelude.{◌≡◌, ◌+◌, ◌*◌, ◌^◌, ◌≤◌, [], length, map, option_copied, option_to_list, All, IfOk, OnOk};
+ghost use Rattle.std.specs.Prelude.{◌≡◌, ◌+◌, ◌*◌, ◌^◌, ◌≤◌, [], length, map, All, IfOk, OnOk};
 ghost use Rattle.fw_row_table.specs.Names.{place_of};
 ghost use Rattle.fw_row_table.specs.Texts.{with_texts, texts_of_tags};
 ghost use Rattle.fw_row_table.specs.Lists.{tag_places};
@@ -9,38 +9,18 @@ use crate::lending::LentTags;
 use crate::names::Names;
 use std::alloc::{AllocError, Global};
 
-/// The names of two lists of names, the second behind the first.
-pub fn joined_names(alloc: Global, first: &Names, second: &Names) -> Result<Names, AllocError>
-    requires { length first.now + length second.now ≤ 2 ^ 30 }
-    ensures names { IfOk result (λ names. names ≡ with_texts (with_texts [] first.now) second.now) }
-    ensures few { IfOk result (λ names. length names ≤ length first.now + length second.now) }
-{
-    let mut names = Names::new(alloc);
-    see_all(&mut names, first)?;
-    see_all(&mut names, second)?;
-    Ok(names)
-}
-
-/// Adds those of other names that are new.
-fn see_all(names: &mut Names, other: &Names) -> Result<(), AllocError>
+/// Adds those of other names that are new. Returns the place of each.
+pub fn see_names(alloc: Global, names: &mut Names, other: &Names) -> Result<Vec<u32>, AllocError>
     requires { length names.old + length other.now ≤ 2 ^ 30 }
     ensures seen { OnOk result (names.new ≡ with_texts names.old other.now) }
     ensures few { OnOk result (length names.new ≤ length names.old + length other.now) }
-{
-    for place in 0..other.len() as u32 {
-        see(names, Some(other.text(place)))?;
-    }
-    Ok(())
-}
-
-/// The places of other names among these.
-pub fn places_in(alloc: Global, names: &Names, other: &Names) -> Result<Vec<u32>, AllocError>
-    ensures places { IfOk result (λ places. places.items ≡ map (place_of names.now) other.now) }
+    ensures places { IfOk result (λ places. places.items ≡ map (place_of names.new) other.now) }
     ensures within { IfOk result (λ places. All (λ place. place ≤ 2 ^ 30) places.items) }
 {
     let mut places = Vec::with_capacity(alloc, other.len())?;
     for place in 0..other.len() as u32 {
-        places.push(names.place(other.text(place)))?;
+        let code = names.code(other.text(place))?;
+        places.push(code)?;
     }
     Ok(places)
 }
@@ -68,20 +48,6 @@ pub fn see_tags(
         let value = names.code_near(like.get(list.len()).copied(), tag.value)?;
         list.push(value)?;
         rest = after;
-    }
-    Ok(())
-}
-
-/// Adds a text that is there and new.
-#[tactic(auto, using(crate::proofs::TextFacts::with_text_adds_one), unfolding(crate::specs::Texts::with_texts))]
-fn see(names: &mut Names, text: Option<&str>) -> Result<(), AllocError>
-    requires { length names.old + 1 ≤ 2 ^ 30 }
-    ensures seen { OnOk result (names.new ≡ with_texts names.old
-        (option_to_list (option_copied text.entry))) }
-    ensures few { OnOk result (length names.new ≤ length names.old + 1) }
-{
-    if let Some(text) = text {
-        names.code(text)?;
     }
     Ok(())
 }

@@ -3,7 +3,7 @@ use Rattle.std.specs.Prelude.{map, string_bytes}
 use Rattle.std.proofs.lemmas.List.{get_or-map, length-map}
 use Rattle.fw_charge.specs.Charge.{Charge, IsCharge}
 use Rattle.fw_charge.specs.Spelling.{FitsTags}
-use Rattle.fw_columns.specs.RowViews.{charge_with}
+use Rattle.fw_row_table.specs.Lending.{charge_with}
 use Rattle.fw_row_table.specs.Table.{tags_of}
 use Rattle.fw_fields.specs.Row.{fields_agree, row_from}
 use Rattle.fw_column_bytes.specs.Fits.{FitParts}

@@ -1,5 +1,5 @@
 use Rattle.std.proofs.Common.{subst}
-use Rattle.fw_columns.specs.RowViews.{tags_at}
+use Rattle.fw_columns.specs.Rows.{tags_at}
 use Rattle.fw_rows.specs.Parts.{texts_of}
 use Rattle.fw_rows.specs.Sinks.{CanGive, StatesGiven, with_text}
 use Rattle.fw_rows.specs.declared.sink.GivenTags.{GivenTags}

@@ -1,4 +1,4 @@
-use Rattle.fw_columns.specs.RowViews.{tags_at}
+use Rattle.fw_columns.specs.Rows.{tags_at}
 use Rattle.fw_rows.specs.Parts.{texts_of}
 use Rattle.fw_rows.proofs.WordFacts.{test-yes}
 use Rattle.fw_column_rows.proofs.ViewFacts.{view_charge}

@@ -1,7 +1,7 @@
 use Rattle.std.proofs.Common.{ℕ, List, [], Ok, refl, subst}
 use Rattle.std.proofs.lemmas.Result.{err_from_is_err_and}
 use Rattle.fw_charge.specs.Tags.{TagText}
-use Rattle.fw_columns.specs.RowViews.{charge_with}
+use Rattle.fw_row_table.specs.Lending.{charge_with}
 use Rattle.fw_rules.specs.Table.{NoneBroken}
 use Rattle.fw_rows.specs.Parts.{TagsAnswer, texts_of}
 use Rattle.fw_rows.specs.Rules.{length_rules}

@@ -1,66 +1,66 @@
-use Rattle.std.proofs.Common.{◌≤◌, ◌*◌, ◌^◌, ◌∙◌, ap, subst, ℕ, List, length, arith}
-use Rattle.std.proofs.lemmas.List.Elements.{All-same}
-use Rattle.std.proofs.lemmas.List.{length-map}
-use Rattle.fw_columns.specs.Joining.{AreCodedOf, AreListsOf}
-use Rattle.fw_row_table.specs.Names.{place_of}
-use Rattle.fw_row_table.specs.Table.{rows_of}
-use Rattle.fw_row_table.specs.Texts.{most_texts}
-use Rattle.fw_columns.proofs.JoinFacts.{codes_below, lists_below, joined_columns}
+use Rattle.std.proofs.Common.{get_or, ◌≡◌, ◌∙◌, ◌≤◌, ◌<◌, ◌+◌, ◌++◌, ◌∷◌, [], ap, sym, subst, ℕ, List, length, length-append, take, drop, arith}
+use Rattle.std.specs.List.{flat_map}
+use Rattle.std.proofs.lemmas.List.{append-nil, take_more, take_all, take-append-drop}
+use Rattle.std.proofs.lemmas.Grind.{flat_map-append}
+use Rattle.fw_charge.specs.Charge.{Charge}
+use Rattle.fw_row_table.specs.Table.{rows_of, AreColumns}
+use Rattle.fw_row_table.proofs.TableFacts.{shown, columns_shown}
 use Rattle.fw_columns.proofs.joining.joined.Goals as goal
+use Rattle.fw_columns.proofs.joining.joined.Goals.{After-table}
 
-pub joined_names-requires : goal.joined_names-requires
-joined_names-requires c =
-    let a : length c.args.first.now.names ≤ most_texts * length (rows_of c.args.first.now) = c.requires.first.names_few in
-    let b : length c.args.second.now.names ≤ most_texts * length (rows_of c.args.second.now) = c.requires.second.names_few in
-    omega (arith, a, b, c.requires.few)
+pub loop-part-init : goal.loop-part-init
+loop-part-init c = record { columns = c.empty-table.ensures.columns; some = λ h. absurd (omega (arith, h)) }
 
-pub joined_coded-requires-clause-first : goal.joined_coded-requires-clause-first
-joined_coded-requires-clause-first c =
-    let t = c.args.first.now in
-    codes_below t (rows_of t) c.requires.first (length c.as_slice.result.now)
-    (ap length c.as_slice.ensures.value ∙ (ap length c.in_ok-one.ensures.places ∙ length-map t.names (place_of c.in_ok-names.names)))
+-- the rows of the parts so far and of one more
+more_parts : {X : Type 0} (f : X → List Charge) (parts : List X) (i : ℕ) (d : X) → i < length parts → flat_map f (take (i + 1) parts) ≡ flat_map f (take i parts) ++ f (get_or parts i d)
+more_parts f parts i d h =
+    ap (flat_map f) (take_more parts i d h) ∙ (flat_map-append f (take i parts) (get_or parts i d ∷ []) ∙ ap (λ rows. flat_map f (take i parts) ++ rows) (append-nil (f (get_or parts i d))))
 
-pub joined_coded-requires-clause-second : goal.joined_coded-requires-clause-second
-joined_coded-requires-clause-second c =
-    let t = c.args.second.now in
-    codes_below t (rows_of t) c.requires.second (length c.as_slice-2.result.now)
-    (ap length c.as_slice-2.ensures.value ∙ (ap length c.in_ok-two.ensures.places ∙ length-map t.names (place_of c.in_ok-names.names)))
+-- are not more than those of all
+few_parts : {X : Type 0} (f : X → List Charge) (parts : List X) (i : ℕ) → length (flat_map f (take i parts)) ≤ length (flat_map f parts)
+few_parts f parts i =
+    let all : flat_map f parts ≡ flat_map f (take i parts) ++ flat_map f (drop i parts) = ap (flat_map f) (sym (take-append-drop i parts)) ∙ flat_map-append f (take i parts) (drop i parts) in
+    let size : length (flat_map f parts) ≡ length (flat_map f (take i parts)) + length (flat_map f (drop i parts)) = ap length all ∙ length-append (flat_map f (take i parts)) (flat_map f (drop i parts)) in
+    omega (arith, size)
 
-pub joined_coded-requires-clause-one : goal.joined_coded-requires-clause-one
-joined_coded-requires-clause-one c = All-same (λ place. place ≤ 2 ^ 30) c.as_slice.result.now c.in_ok-one.one.items c.as_slice.ensures.value c.in_ok-one.ensures.within
+module _ (c : goal.After-table) where
+  -- the rows so far, and those of the part that comes next
+  so_far : rows_of c.loop-part.table ≡ flat_map (λ part. part.now) (take c.loop-part.part-index c.args.parts.now)
+  so_far = shown c.loop-part.table _ c.loop-part.invariant.columns
 
-pub joined_coded-requires-clause-two : goal.joined_coded-requires-clause-two
-joined_coded-requires-clause-two c = All-same (λ place. place ≤ 2 ^ 30) c.as_slice-2.result.now c.in_ok-two.two.items c.as_slice-2.ensures.value c.in_ok-two.ensures.within
+  next : rows_of c.loop-part.table ++ rows_of c.table.result.now ≡ flat_map (λ part. part.now) (take (c.loop-part.part-index + 1) c.args.parts.now)
+  next =
+      (λ j. so_far j ++ (c.table.ensures.rows ∙ ap (λ part. part.now) c.part-item.is) j)
+      ∙ sym (more_parts (λ part. part.now) c.args.parts.now c.loop-part.part-index c.part-item.result c.loop-part-test.true)
 
-pub joined_lists-requires-clause-first : goal.joined_lists-requires-clause-first
-joined_lists-requires-clause-first c =
-    let t = c.args.first.now in
-    lists_below t (rows_of t) c.requires.first (length c.as_slice-3.result.now)
-    (ap length c.as_slice-3.ensures.value ∙ (ap length c.in_ok-one.ensures.places ∙ length-map t.names (place_of c.in_ok-names.names)))
+pub append-requires-clause-first : goal.append-requires-clause-first
+append-requires-clause-first c = columns_shown c.loop-part.table _ c.loop-part.invariant.columns
 
-pub joined_lists-requires-clause-second : goal.joined_lists-requires-clause-second
-joined_lists-requires-clause-second c =
-    let t = c.args.second.now in
-    lists_below t (rows_of t) c.requires.second (length c.as_slice-4.result.now)
-    (ap length c.as_slice-4.ensures.value ∙ (ap length c.in_ok-two.ensures.places ∙ length-map t.names (place_of c.in_ok-names.names)))
+pub append-requires-clause-few : goal.append-requires-clause-few
+append-requires-clause-few c =
+    let size : length (rows_of c.loop-part.table) + length (rows_of c.table.result.now) ≡ length (flat_map (λ part. part.now) (take (c.loop-part.part-index + 1) c.args.parts.now)) =
+    sym (length-append (rows_of c.loop-part.table) (rows_of c.table.result.now)) ∙ ap length (next c) in
+    omega (arith, size, few_parts (λ part. part.now) c.args.parts.now (c.loop-part.part-index + 1), c.requires.few)
 
-pub joined_lists-requires-clause-few : goal.joined_lists-requires-clause-few
-joined_lists-requires-clause-few c = omega (arith, c.requires.first.lists_few, c.requires.second.lists_few, c.requires.few)
+pub loop-part-preserved : goal.loop-part-preserved
+loop-part-preserved c =
+    let now = next (goal.at.loop-part-preserved c).After-table in
+    let size : length (rows_of c.loop-part.table) + length (rows_of c.table.result.now) ≡ length (flat_map (λ part. part.now) (take (c.loop-part.part-index + 1) c.args.parts.now)) =
+    sym (length-append (rows_of c.loop-part.table) (rows_of c.table.result.now)) ∙ ap length now in
+    let same : length (rows_of c.table.result.now) ≡ length c.part-item.result.now = ap length c.table.ensures.rows in
+    record {
+      columns = subst (AreColumns c.append.new.table) now c.in_ok-append.ensures;
+      some = λ _. omega (arith, size, same, c.table.ensures.some);
+    }
 
-pub returns : goal.returns
-returns c =
-    let a = c.args.first.now in
-    let b = c.args.second.now in
-    let k = c.in_ok-coded.coded in
-    let g = c.in_ok-listed.listed in
-    let one = c.in_ok-one.one.items in
-    let two = c.in_ok-two.two.items in
-    let CodedFrom : List ℕ → Type 0 = λ x. AreCodedOf k a b x c.as_slice-2.result.now in
-    let CodedTo : List ℕ → Type 0 = λ x. AreCodedOf k a b one x in
-    let ListedFrom : List ℕ → Type 0 = λ x. AreListsOf g a b x c.as_slice-4.result.now in
-    let ListedTo : List ℕ → Type 0 = λ x. AreListsOf g a b one x in
-    joined_columns a b (rows_of a) (rows_of b) c.requires.first c.requires.second c.in_ok-names.names one two c.in_ok-one.ensures.places c.in_ok-two.ensures.places
-    c.requires.few c.in_ok-names.ensures.names c.in_ok-names.ensures.few c.in_ok-plain.plain k g
-    c.in_ok-plain.ensures
-    (subst CodedTo c.as_slice-2.ensures.value (subst CodedFrom c.as_slice.ensures.value c.in_ok-coded.ensures))
-    (subst ListedTo c.as_slice-4.ensures.value (subst ListedFrom c.as_slice-3.ensures.value c.in_ok-listed.ensures))
+pub returns-clause-rows : goal.returns-clause-rows
+returns-clause-rows c =
+    shown c.loop-part.table _ c.loop-part.invariant.columns ∙ ap (flat_map (λ part. part.now)) (take_all c.loop-part.part-index c.args.parts.now c.loop-part-test.false)
+
+pub returns-clause-some : goal.returns-clause-some
+returns-clause-some c =
+    let size : length (rows_of c.loop-part.table) ≡ length (flat_map (λ part. part.now) (take c.loop-part.part-index c.args.parts.now)) = ap length (shown c.loop-part.table _ c.loop-part.invariant.columns) in
+    omega (arith, size, c.loop-part.invariant.some (omega (arith, c.requires.some, c.loop-part-test.false)))
+
+pub returns-clause-columns : goal.returns-clause-columns
+returns-clause-columns c = columns_shown c.loop-part.table _ c.loop-part.invariant.columns

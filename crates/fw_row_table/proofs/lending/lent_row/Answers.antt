@@ -5,13 +5,13 @@ use Rattle.fw_charge.proofs.ChargeFacts.{equal_fields}
 use Rattle.fw_charge.specs.Charge.{Charge, IsCharge}
 use Rattle.fw_charge.specs.Codes.{kind_of, status_of}
 use Rattle.fw_charge.specs.declared.discount.DiscountKind.TheVariants as kinds
-use Rattle.fw_row_table.specs.Lending.{discount_shown, tags_lent}
+use Rattle.fw_row_table.specs.Lending.{discount_with, tags_lent}
 use Rattle.fw_row_table.specs.Table.{charge_at, category_at, class_at, text_of, quantity_of, list_at}
 use Rattle.fw_row_table.proofs.LendingFacts.{discount_kept}
 use Rattle.fw_row_table.proofs.lending.lent_row.Goals as goal
 
 -- the charge that the values show
-given : goal.After-text_lent-4 → Charge
+given : goal.After-values-1 → Charge
 given c = record {
   billed = c.amount_at.result;
   effective = c.amount_at-2.result;
@@ -19,7 +19,7 @@ given c = record {
   is_correction = c.class_at.result;
   start = c.second_at.result;
   end = c.index.result.now;
-  discount = discount_shown (option_copied c.text_lent.result) c.unwrap_or.result c.from_code-2.result;
+  discount = discount_with c.text_lent.result c.unwrap_or.result c.from_code-2.result;
   quantity = c.quantity_of.result;
   unit = option_copied c.text_lent-2.result;
   sku = option_copied c.text_lent-3.result;
@@ -27,7 +27,7 @@ given c = record {
   tags = tags_lent c.args.tags;
 }
 
-shown : (c : goal.After-text_lent-4) → given c ≡ charge_at c.args.table.now c.args.place
+shown : (c : goal.After-values-1) → given c ≡ charge_at c.args.table.now c.args.place
 unfolding given charge_at list_at
 shown c =
     let t = c.args.table.now in
@@ -44,7 +44,7 @@ shown c =
     let status = c.from_code-2.ensures ∙ ap status_of (get_or_read t.statuses.items i _ c.requires.row.statuses c.index-4.ensures 0) in
     let is_there = get_or_read t.has_quantity.items i _ c.requires.row.has_quantity c.index-5.ensures false in
     let count = c.amount_at-3.ensures ∙ ap there c.as_slice-6.ensures.value in
-    let e7 = (λ j. discount_shown (id j) (kind j) (status j)) ∙ discount_kept (text_of t.names (get_or t.discounts.items i 0)) (get_or t.kinds.items i 0) (get_or t.statuses.items i 0) in
+    let e7 = discount_kept c.text_lent.result c.unwrap_or.result c.from_code-2.result _ (get_or t.kinds.items i 0) (get_or t.statuses.items i 0) id kind status in
     let e8 = c.quantity_of.ensures ∙ (λ j. quantity_of (is_there j) (count j)) in
     let e9 = c.text_lent-2.ensures ∙ ap (text_of t.names) (get_or_read t.units.items i _ c.requires.row.units c.index-6.ensures 0) in
     let e10 = c.text_lent-3.ensures ∙ ap (text_of t.names) (get_or_read t.skus.items i _ c.requires.row.skus c.index-7.ensures 0) in
@@ -52,10 +52,10 @@ shown c =
     let e12 = c.requires.tags in
     equal_fields _ _ e1 e2 e3 e4 e5 e6 e7 e8 e9 e10 e11 e12
 
-pub of_fields-requires : goal.of_fields-requires
+pub of_parts-requires : goal.of_parts-requires
 unfolding given
-of_fields-requires c = subst IsCharge (sym (shown c)) c.requires.charge
+of_parts-requires c = subst IsCharge (sym (shown c)) c.requires.charge
 
 pub returns : goal.returns
 unfolding given
-returns c = c.of_fields.ensures ∙ shown c.before
+returns c = c.of_parts.ensures ∙ shown c.before

@@ -2,7 +2,8 @@ use Rattle.std.proofs.Common.{◌≡◌, ◌∙◌, ◌++◌, [], ◌∷◌, ◌
 use Rattle.std.proofs.lemmas.List.{get_or_read}
 use Rattle.fw_charge.specs.Charge.{Charge}
 use Rattle.fw_row_table.specs.Names.{Text}
-use Rattle.fw_columns.specs.RowViews.{charge_with, tags_at}
+use Rattle.fw_row_table.specs.Lending.{charge_with}
+use Rattle.fw_columns.specs.Rows.{tags_at}
 use Rattle.fw_rows.specs.Judged.{JudgedWithin}
 use Rattle.fw_rows.specs.Parts.{texts_of}
 use Rattle.fw_rows.specs.Rules.{length_rules}

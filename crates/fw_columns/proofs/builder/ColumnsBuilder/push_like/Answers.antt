@@ -1,5 +1,6 @@
 use Rattle.std.proofs.Common.{◌∙◌, ◌++◌, [], ◌∷◌}
-use Rattle.fw_columns.specs.RowViews.{charge_with, tags_at}
+use Rattle.fw_row_table.specs.Lending.{charge_with}
+use Rattle.fw_columns.specs.Rows.{tags_at}
 use Rattle.fw_row_table.proofs.TableFacts.{shown, columns_shown}
 use Rattle.fw_columns.proofs.builder.ColumnsBuilder.push_like.Goals as goal
 

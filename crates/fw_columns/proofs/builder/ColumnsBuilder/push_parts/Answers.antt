@@ -1,6 +1,5 @@
 use Rattle.std.proofs.Common.{◌∙◌, ◌++◌, [], ◌∷◌}
-use Rattle.fw_columns.specs.RowViews.{charge_with}
-use Rattle.fw_row_table.specs.Lending.{tags_lent}
+use Rattle.fw_row_table.specs.Lending.{charge_with, tags_lent}
 use Rattle.fw_row_table.proofs.TableFacts.{shown, columns_shown}
 use Rattle.fw_columns.proofs.builder.ColumnsBuilder.push_parts.Goals as goal
 
