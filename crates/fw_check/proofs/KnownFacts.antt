@@ -57,16 +57,6 @@ known_stay names known counts key n h = record {
   each = λ name place e. place_stays (text_at names name) key n place counts (h.each name place e);
 }
 
--- nothing is known
-pub none_known : (names : List Text) (counts : List (Text × ℕ)) → AreKnown names (replicate (length names) None) counts
-none_known names counts = record {
-  size = length-replicate (length names) None;
-  each = λ name place e. elim (cases_lt name (length names)) [
-    | inl lt ↦ absurd (let none = get_or-replicate {A = Option ℕ} (length names) name None None lt in cc)
-    | inr ge ↦ absurd (let none = get_or_past {X = Option ℕ} (replicate (length names) None) name None (omega (arith, length-replicate {A = Option ℕ} (length names) None)) in cc)
-  ];
-}
-
 -- the place of one more name is known
 pub one_known : (names : List Text) (known : List (Option ℕ)) (counts : List (Text × ℕ)) (name : ℕ) (place : Option ℕ) → name < length names
     → AreKnown names known counts → place ≡ key_place (text_at names name) counts → AreKnown names (set known name place) counts

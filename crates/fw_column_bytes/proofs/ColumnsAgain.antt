@@ -1,6 +1,7 @@
 -- What is spelled by column is read again, whatever follows.
-use Rattle.std.proofs.Common.{◌≡◌, ℕ, ◌+◌, ◌-◌, ◌*◌, ◌/◌, ◌<◌, ◌≤◌, Bool, true, false, cond, List, [], ◌∷◌, ◌++◌, length, get_or, take, All, Option, Some, None, Ok, refl, sym, ap, subst, ◌∙◌, arith, append_assoc, length-append}
-use Rattle.std.specs.Prelude.{map, option_map, option_to_list, is_some, pos, ℤ, ◌==◌, nat_lt, nat_le}
+use Rattle.std.proofs.Common.{◌≡◌, ℕ, ◌+◌, ◌-◌, ◌*◌, ◌/◌, ◌<◌, ◌≤◌, Bool, true, false, cond, List, [], ◌∷◌, ◌++◌, length, get_or, take, All, Option, Some, None, Ok, Err, refl, sym, ap, subst, ◌∙◌, arith, append_assoc, length-append}
+use Rattle.std.specs.Prelude.{map, option_map, option_to_list, is_some, pos, ℤ, ◌==◌, ◌&&◌, nat_lt, nat_le}
+use Rattle.std.specs.Str.{bytes_eq}
 use Rattle.std.specs.List.{flat_map, AllByRecursion, list_all}
 use Rattle.std.specs.Cmp.Lexicographic.{bytes_decides}
 use Rattle.std.proofs.lemmas.Bool.{and_from, and_parts, lt-ltb, le-ltb, le-leb, leb-true}
@@ -33,12 +34,11 @@ use Rattle.fw_row_table.proofs.TableFacts.{text-back, tags-back}
 use Rattle.fw_fields.specs.Row.{fields_agree, row_from}
 use Rattle.fw_fields.proofs.RowFacts.{parts_of, parts_agree, tags_rise}
 use Rattle.fw_fields.proofs.RowOfFields.{row_to, row_from-to}
-use Rattle.fw_column_bytes.specs.Direct.{fields_of_rows, AreColumnsOf}
+use Rattle.fw_column_bytes.specs.Rows.{fields_of_rows, AreColumnsOf, HaveNoRows}
 use Rattle.fw_column_bytes.specs.Kept.{AreRows}
 use Rattle.fw_column_bytes.specs.Fits.{FitsTimes, FitsByte, FitsTextCode, FitsPlace, FitsPlaces, FitBody, FitParts}
 use Rattle.fw_column_bytes.specs.Spelling.{amounts, periods, discounts, flag, quantities, texts, columns, layout}
 use Rattle.fw_column_bytes.specs.Reading.{is_text_code, is_place_code, most_names, Parts, parts_at, fields_at_place, rows_fields, rows_from, columns_at}
-use Rattle.fw_column_bytes.specs.Rows.{agreeing_rows}
 use Rattle.fw_column_bytes.proofs.Copied.{counted, lists_spelled}
 use Rattle.fw_column_bytes.proofs.PartsFormat.{one_byte, spelled_parts, parts_format}
 use Rattle.fw_column_bytes.proofs.RowsRead.{one_more}
@@ -275,7 +275,7 @@ no_more names (t ∷ ts) =
     let rest = no_more (with_text names t) ts in
     omega (arith, one, rest)
 
-names_few : (rows : List Charge) → AreRows rows → length (names_of rows) ≤ 33816576
+pub names_few : (rows : List Charge) → AreRows rows → length (names_of rows) ≤ 33816576
 unfolding names_of
 names_few rows h =
     let made = no_more [] (flat_map texts_of rows) in
@@ -374,18 +374,26 @@ rows_fields_again rows =
     sym (fill_by_all (fields_at_place p) (map row_to rows) (length rows) (fields_at_place p 0) (length-map rows row_to)
     (λ k lt. get_or-map row_to rows k first (fields_at_place p 0) lt ∙ sym (fields_again rows (rows-known rows) k first lt)))
 
-agreeing_again : (rows : List Charge) (left : ℕ) → All IsCharge rows → agreeing_rows (fields_of_rows (names_of rows) rows) left ≡ Ok rows
-unfolding agreeing_rows rows_from
-agreeing_again rows left h = rw (rows_fields_again rows, all_agree rows h, rows_back rows) refl
+agree_again : (rows : List Charge) → All IsCharge rows → list_all fields_agree (rows_fields (fields_of_rows (names_of rows) rows)) ≡ true
+agree_again rows h = ap (list_all fields_agree) (rows_fields_again rows) ∙ all_agree rows h
+
+made_again : (rows : List Charge) → rows_from (fields_of_rows (names_of rows) rows) ≡ rows
+unfolding rows_from
+made_again rows = ap (map row_from) (rows_fields_again rows) ∙ rows_back rows
+
+-- the fields that are read of rows that are spelled
+parts_again : (rows : List Charge) (rest : List ℕ) → AreRows rows → parts_at (columns rows ++ rest) ≡ Ok (fields_of_rows (names_of rows) rows, rest)
+parts_again rows rest h =
+    let p = fields_of_rows (names_of rows) rows in
+    subst (λ (w : List ℕ). parts_at (w ++ rest) ≡ Ok (p, rest)) (spelled_by_column rows) (parts_format.again p rest (parts_fit rows h))
 
 pub columns_again : (rows : List Charge) (rest : List ℕ) → AreRows rows → columns_at (columns rows ++ rest) ≡ Ok (rows, rest)
 columns_again rows rest h =
     let p = fields_of_rows (names_of rows) rows in
     let bytes = columns rows ++ rest in
-    let read : parts_at bytes ≡ Ok (p, rest) = subst (λ (w : List ℕ). parts_at (w ++ rest) ≡ Ok (p, rest)) (spelled_by_column rows) (parts_format.again p rest (parts_fit rows h)) in
     let size : length (columns rows) ≡ length bytes - length rest = let sum : length bytes ≡ length (columns rows) + length rest = length-append (columns rows) rest in omega (arith, sum) in
     let front : take (length bytes - length rest) bytes ≡ columns rows = take_at (columns rows) rest (length bytes - length rest) size in
-    columns_taken bytes (p, rest) rows read (agreeing_again rows (length bytes) (All-weaker IsRow IsCharge (λ c k. k.charge) rows h.each)) ((bytes_decides _ _).1 (sym front))
+    columns_taken bytes (p, rest) rows (parts_again rows rest h) (agree_again rows (All-weaker IsRow IsCharge (λ c k. k.charge) rows h.each)) (made_again rows) ((bytes_decides _ _).1 (sym front))
 
 -- what is read of rows by column is spelled so, and what is spelled so is read
 pub columns_format : IsFormat columns_at columns AreRows
@@ -400,8 +408,23 @@ direct_taken bytes p rows is read h =
     let sum : length bytes ≡ length (columns rows) + length p.1 = ap length whole ∙ length-append (columns rows) p.1 in
     let size : length (columns rows) ≡ length bytes - length p.1 = omega (arith, sum) in
     let front : take (length bytes - length p.1) bytes ≡ columns rows = ap (take (length bytes - length p.1)) whole ∙ take_at (columns rows) p.1 (length bytes - length p.1) size in
-    let agree : agreeing_rows p.0 (length bytes) ≡ Ok rows = ap (λ (q : Parts). agreeing_rows q (length bytes)) h.fields ∙ agreeing_again rows (length bytes) h.charges in
-    columns_taken bytes p rows read agree ((bytes_decides _ _).1 (sym front))
+    let agree = ap (λ (q : Parts). list_all fields_agree (rows_fields q)) h.fields ∙ agree_again rows h.charges in
+    columns_taken bytes p rows read agree (ap rows_from h.fields ∙ made_again rows) ((bytes_decides _ _).1 (sym front))
+
+-- where no rows have the columns that were read, all of it is a fault
+pub not_taken : (bytes : List ℕ) (p : Parts × List ℕ) → IsBytes bytes → parts_at bytes ≡ Ok p → HaveNoRows p.0 → columns_at bytes ≡ Err (length bytes)
+unfolding columns_at
+not_taken bytes p is read none = by (list_all fields_agree (rows_fields p.0) && bytes_eq (columns (rows_from p.0)) (take (length bytes - length p.1) bytes)) refl
+  where
+    by : (test : Bool) → (list_all fields_agree (rows_fields p.0) && bytes_eq (columns (rows_from p.0)) (take (length bytes - length p.1) bytes)) ≡ test → columns_at bytes ≡ Err (length bytes)
+    by false e = rw (read, e) refl
+    by true e =
+        let x : List Charge × List ℕ = (rows_from p.0, p.1) in
+        let taken : columns_at bytes ≡ Ok x = rw (read, e) refl in
+        let t = columns_taken_so bytes x is taken in
+        let q : Parts × List ℕ = (fields_of_rows (names_of x.0) x.0, x.1) in
+        let same : p ≡ q = ok_is p q (sym read ∙ (ap parts_at t.0.parts ∙ parts_again x.0 x.1 t.1)) in
+        absurd (none x.0 t.1 (record { charges = All-weaker IsRow IsCharge (λ c k. k.charge) x.0 t.1.each; fields = ap (λ (y : Parts × List ℕ). y.0) same }))
 
 -- rows that have the same bytes are the same
 pub one_spelling : (xs ys : List Charge) → AreRows xs → AreRows ys → columns xs ≡ columns ys → xs ≡ ys

@@ -1,5 +1,5 @@
 -- The rows of fields that were read, each in its range.
-use Rattle.std.proofs.Common.{◌≡◌, ℕ, zero, suc, ◌+◌, ◌/◌, ◌<◌, ◌≤◌, Bool, true, false, List, [], ◌∷◌, length, get_or, cond, All, refl, sym, ap, subst, ◌∙◌, arith, ℤ}
+use Rattle.std.proofs.Common.{◌≡◌, ℕ, zero, suc, ◌+◌, ◌/◌, ◌<◌, ◌≤◌, Bool, true, false, List, [], ◌∷◌, length, get_or, cond, All, refl, subst, ◌∙◌, arith, ℤ}
 use Rattle.std.specs.Prelude.{pos, nat_lt, map}
 use Rattle.std.specs.List.{AllByRecursion, range_with_len}
 use Rattle.std.proofs.lemmas.Bool.{and_parts, ltb-true, ltb-false, leb-true}
@@ -9,20 +9,14 @@ use Rattle.std.proofs.lemmas.List.Elements.{All-from_recursion, All-nil, All-con
 use Rattle.fw_bytes.specs.Spelling.{FitsOptional}
 use Rattle.fw_bytes.proofs.Laws.{list_fits, list_parts}
 use Rattle.fw_charge.specs.Spelling.{FitsNanos, FitsShortText, FitsTagText, FitsTag, FitsTags, IsRow, is_short}
-use Rattle.fw_charge.specs.Tags.{TagText, most_tags}
+use Rattle.fw_charge.specs.Tags.{most_tags}
 use Rattle.fw_row_table.specs.Names.{Text}
 use Rattle.fw_row_table.specs.Table.{text_at, text_of, quantity_of, tag_of, tags_of, most_column_rows}
 use Rattle.fw_row_table.proofs.LendingFacts.{tags_counted}
 use Rattle.fw_fields.specs.Row.{fields_agree, row_from}
 use Rattle.fw_fields.proofs.RowOfFields.{FitFields, is_row_from}
-use Rattle.fw_charge.specs.Spelling.{FitsSecond}
-use Rattle.fw_money.specs.Amount.{most_nanos}
-use Rattle.std.specs.Prelude.{nat_abs}
 use Rattle.fw_column_bytes.specs.Reading.{is_place_code, most_names, Front, Parts, fields_at_place}
-use Rattle.fw_column_bytes.specs.Fits.{FitsTimes, FitsTextCode, FitsPlace, FitsPlaces, FitFront, FitParts, FitsByte}
-use Rattle.fw_column_bytes.specs.Rows.{HasPlace, fields_with}
-use Rattle.fw_column_bytes.specs.declared.rows.FieldsRead.{FieldsRead}
-use Rattle.fw_charge.specs.Codes.{category_count}
+use Rattle.fw_column_bytes.specs.Fits.{FitsTimes, FitsTextCode, FitsPlace, FitsPlaces, FitFront, FitParts}
 
 -- what each value of a column keeps
 pub each_keeps : {A : Type 0} (Fits : A → Type 0) (n : ℕ) (xs : List A) (i : ℕ) (d : A) → FitsTimes n Fits xs → i < n → Fits (get_or xs i d)
@@ -61,14 +55,6 @@ module _ (names : List Text) (fit : All FitsTagText names) where
       let few : length places / 2 ≤ most_tags = leb-true _ _ h.few.1 in
       list_fits FitsTag 0 most_tags (tags_of names places) (omega arith) (omega (arith, count, few)) (omega arith) (each_tag_fits places h.each)
 
-  pub places_within : (places : List ℕ) → AllByRecursion (FitsPlace names) places → All (λ place. place < length names) places
-  places_within [] h = All-nil (λ place. place < length names)
-  places_within (place ∷ places) h = All-cons (λ place. place < length names) place places (place_below place h.0) (places_within places h.1)
-
-  pub code_within : (code : ℕ) → FitsTextCode names code → code ≤ length names
-  code_within zero h = omega arith
-  code_within (suc place) h = let b : place < length names = ltb-true _ _ (and_parts (nat_lt place (length names)) (is_short (text_at names place)) h.1).0 in omega (arith, b)
-
 quantity_fits : (there : Bool) (z : ℤ) → FitsNanos z → FitsOptional FitsNanos (quantity_of there z)
 unfolding quantity_of
 quantity_fits false z h = tt
@@ -104,52 +90,9 @@ module _ (p : Parts) (h : FitParts p) where
     pub row_kept : fields_agree (fields_at_place p i) ≡ true → IsRow (row_from (fields_at_place p i))
     row_kept e = is_row_from (fields_at_place p i) fields_fit e
 
-    in_range : (xs : List ℤ) → FitsTimes p.0.1.0 FitsNanos xs → nat_abs (get_or xs i (pos 0)) ≤ most_nanos
-    in_range xs k = leb-true _ _ (each_keeps FitsNanos p.0.1.0 xs i (pos 0) k lt).1
-
-    below : {A : Type 0} (Fits : A → Type 0) (xs : List A) → FitsTimes p.0.1.0 Fits xs → i < length xs
-    below Fits xs k = let size : length xs ≡ p.0.1.0 = k.0 in omega (arith, size, lt)
-
-    code : (xs : List ℕ) → FitsTimes p.0.1.0 (FitsTextCode p.0.1.1) xs → get_or xs i 0 ≤ length p.0.1.1
-    code xs k = code_within p.0.1.1 names_fit (get_or xs i 0) (each_keeps (FitsTextCode p.0.1.1) p.0.1.0 xs i 0 k lt)
-
-    -- the columns have a row at each place
-    pub has_place : HasPlace p i
-    has_place =
-        let b = h.1 in
-        record {
-          billed = below FitsNanos p.1.0.0 b.0.0;
-          billed_range = in_range p.1.0.0 b.0.0;
-          effective = below FitsNanos p.1.0.1.0 b.0.1.0;
-          effective_range = in_range p.1.0.1.0 b.0.1.0;
-          categories = below (FitsByte 1 category_count) p.1.0.1.1.0 b.0.1.1.0;
-          classes = below (FitsByte 0 1) p.1.0.1.1.1 b.0.1.1.1;
-          starts = below FitsSecond p.1.1.0.0 b.1.0.0;
-          ends = below FitsSecond p.1.1.0.1 b.1.0.1;
-          ids = below (FitsTextCode p.0.1.1) p.1.1.1.0.0 b.1.1.0.0;
-          id = code p.1.1.1.0.0 b.1.1.0.0;
-          kinds = below (FitsByte 0 2) p.1.1.1.0.1.0 b.1.1.0.1.0;
-          statuses = below (FitsByte 0 2) p.1.1.1.0.1.1 b.1.1.0.1.1;
-          are_there = below (FitsByte 0 1) p.1.1.1.1.0.0 b.1.1.1.0.0;
-          counts = below FitsNanos p.1.1.1.1.0.1 b.1.1.1.0.1;
-          count_range = in_range p.1.1.1.1.0.1 b.1.1.1.0.1;
-          units = below (FitsTextCode p.0.1.1) p.1.1.1.1.1.0.0 b.1.1.1.1.0.0;
-          unit = code p.1.1.1.1.1.0.0 b.1.1.1.1.0.0;
-          skus = below (FitsTextCode p.0.1.1) p.1.1.1.1.1.0.1.0 b.1.1.1.1.0.1.0;
-          sku = code p.1.1.1.1.1.0.1.0 b.1.1.1.1.0.1.0;
-          sub_accounts = below (FitsTextCode p.0.1.1) p.1.1.1.1.1.0.1.1 b.1.1.1.1.0.1.1;
-          sub_account = code p.1.1.1.1.1.0.1.1 b.1.1.1.1.0.1.1;
-        }
-
-    pub list_fits_there : FitsPlaces p.0.1.1 (get_or p.1.1.1.1.1.1 i [])
-    list_fits_there = each_keeps (FitsPlaces p.0.1.1) p.0.1.0 p.1.1.1.1.1.1 i [] h.1.1.1.1.1.1 lt
-
-    pub list_below : i < length p.1.1.1.1.1.1
-    list_below = below (FitsPlaces p.0.1.1) p.1.1.1.1.1.1 h.1.1.1.1.1.1
-
 -- ---- how many rows there are
 
-within_is : (low high : Bool) → cond low false (cond high false true) ≡ true → (low ≡ false) × (high ≡ false)
+pub within_is : (low high : Bool) → cond low false (cond high false true) ≡ true → (low ≡ false) × (high ≡ false)
 within_is true high e = absurd cc
 within_is false true e = absurd cc
 within_is false false e = (refl, refl)
@@ -166,12 +109,3 @@ front_within f h =
 
 pub made_count : (p : Parts) (n : ℕ) → length (map row_from (map (fields_at_place p) (range_with_len 0 n))) ≡ n
 made_count p n = length-map (map (fields_at_place p) (range_with_len 0 n)) row_from ∙ (length-map (range_with_len 0 n) (fields_at_place p) ∙ length-range_with_len 0 n)
-
--- ---- the fields of a row, with tags that were made of its list
-
-tags_there : (p : Parts) (i : ℕ) → (fields_at_place p i).1.1.1.1 ≡ tags_of p.0.1.1 (get_or p.1.1.1.1.1.1 i [])
-unfolding fields_at_place
-tags_there p i = refl
-
-pub whole_fields : (p : Parts) (i : ℕ) (f : FieldsRead) (tags : List TagText) → fields_with f (fields_at_place p i).1.1.1.1 ≡ fields_at_place p i → tags ≡ tags_of p.0.1.1 (get_or p.1.1.1.1.1.1 i []) → fields_with f tags ≡ fields_at_place p i
-whole_fields p i f tags read are = ap (fields_with f) (are ∙ sym (tags_there p i)) ∙ read

@@ -2,6 +2,5 @@ pub mod Spelling
 pub mod Reading
 pub mod PartsView
 pub mod Fits
-pub mod Rows
 pub mod Kept
-pub mod Direct
+pub mod Rows

@@ -30,7 +30,7 @@ abbrev pub texts_view : TextsRead → Texts
 texts_view t = (t.units.items, (t.skus.items, t.sub_accounts.items))
 
 abbrev pub body_view : BodyRead → Body
-body_view b = (amounts_view b.amounts, (periods_view b.periods, (discounts_view b.discounts, (quantities_view b.quantities, (texts_view b.texts, map (λ list. list.items) b.tags.items)))))
+body_view b = (amounts_view b.amounts, (periods_view b.periods, (discounts_view b.discounts, (quantities_view b.quantities, (texts_view b.texts, b.tags)))))
 
 abbrev pub parts_view : PartsRead → Parts
 parts_view p = (front_view p.front, body_view p.body)

@@ -1,51 +1,68 @@
--- The rows of fields that were read. The private functions of the crate cite it.
-use Rattle.std.specs.Prelude.{◌≡◌, ◌<◌, ◌≤◌, ℕ, pos, nat_abs, false, List, length, slice_index_or, option_copied, Result, Ok, Err, if◌then◌else◌}
-use Rattle.std.specs.List.{list_all}
-use Rattle.fw_bytes.specs.declared.fault.ReadError.{ReadError}
-use Rattle.fw_bytes.specs.declared.fault.ReadError.TheVariants as errors
-use Rattle.fw_money.specs.Amount.{most_nanos}
-use Rattle.fw_charge.specs.Charge.{Charge}
-use Rattle.fw_charge.specs.Tags.{TagText}
-use Rattle.fw_fields.specs.Row.{Fields, fields_agree}
-use Rattle.fw_column_bytes.specs.Reading.{Parts, rows_fields, rows_from}
-use Rattle.fw_column_bytes.specs.declared.rows.FieldsRead.{FieldsRead}
+-- The rows that have the columns which were read. The private functions of the crate cite it.
+use Rattle.std.specs.Prelude.{◌≡◌, ◌==◌, List, All, length, map, pos, is_some, string_bytes}
+use Rattle.fw_charge.specs.Charge.{Charge, IsCharge}
+use Rattle.fw_charge.specs.Codes.{category_code, class_code}
+use Rattle.fw_columns.specs.declared.parts.Parts as taken
+use Rattle.fw_row_table.specs.Codes.{text_code}
+use Rattle.fw_row_table.specs.Lists.{lists_of}
+use Rattle.fw_row_table.specs.Names.{Text}
+use Rattle.fw_row_table.specs.Table.{id_kept, kind_kept, status_kept, quantity_kept}
+use Rattle.fw_row_table.specs.Texts.{names_of}
+use Rattle.fw_column_bytes.specs.Kept.{AreRows}
+use Rattle.fw_column_bytes.specs.Reading.{Parts}
+use Rattle.fw_column_bytes.specs.Spelling.{flag, layout}
+use Rattle.fw_column_bytes.specs.declared.reading.PartsRead.{PartsRead}
+use Rattle.fw_column_bytes.specs.declared.rows.Rewritten.{Rewritten}
 
--- the fields of a row with these tags
-abbrev pub fields_with : FieldsRead → List TagText → Fields
-fields_with f tags = (
-  (f.billed, (f.effective, (f.category, f.is_correction))),
-  ((f.start, f.end), ((option_copied f.id, (f.kind, f.status)), ((f.quantity, (option_copied f.unit, (option_copied f.sku, option_copied f.sub_account))), tags))),
+-- the fields of rows
+abbrev pub fields_of_rows : List Text → List Charge → Parts
+fields_of_rows names rows = (
+  (layout, (length rows, names)),
+  (
+    (map (λ c. c.billed) rows, (map (λ c. c.effective) rows, (map (λ c. category_code c.category) rows, map (λ c. class_code c.is_correction) rows))),
+    (
+      (map (λ c. c.start) rows, map (λ c. c.end) rows),
+      (
+        (map (λ c. id_kept names c.discount) rows, (map (λ c. kind_kept c.discount) rows, map (λ c. status_kept c.discount) rows)),
+        (
+          (map (λ c. flag (is_some c.quantity)) rows, map (λ c. quantity_kept c.quantity) rows),
+          ((map (λ c. text_code names c.unit) rows, (map (λ c. text_code names c.sku) rows, map (λ c. text_code names c.sub_account) rows)), lists_of names rows),
+        ),
+      ),
+    ),
+  ),
 )
 
--- the columns have a row at a place
-pub record HasPlace (p : Parts) (i : ℕ) : Type 0 where
-  pub billed : i < length p.1.0.0
-  pub billed_range : nat_abs (slice_index_or p.1.0.0 i (pos 0)) ≤ most_nanos
-  pub effective : i < length p.1.0.1.0
-  pub effective_range : nat_abs (slice_index_or p.1.0.1.0 i (pos 0)) ≤ most_nanos
-  pub categories : i < length p.1.0.1.1.0
-  pub classes : i < length p.1.0.1.1.1
-  pub starts : i < length p.1.1.0.0
-  pub ends : i < length p.1.1.0.1
-  pub ids : i < length p.1.1.1.0.0
-  pub id : slice_index_or p.1.1.1.0.0 i 0 ≤ length p.0.1.1
-  pub kinds : i < length p.1.1.1.0.1.0
-  pub statuses : i < length p.1.1.1.0.1.1
-  pub are_there : i < length p.1.1.1.1.0.0
-  pub counts : i < length p.1.1.1.1.0.1
-  pub count_range : nat_abs (slice_index_or p.1.1.1.1.0.1 i (pos 0)) ≤ most_nanos
-  pub units : i < length p.1.1.1.1.1.0.0
-  pub unit : slice_index_or p.1.1.1.1.1.0.0 i 0 ≤ length p.0.1.1
-  pub skus : i < length p.1.1.1.1.1.0.1.0
-  pub sku : slice_index_or p.1.1.1.1.1.0.1.0 i 0 ≤ length p.0.1.1
-  pub sub_accounts : i < length p.1.1.1.1.1.0.1.1
-  pub sub_account : slice_index_or p.1.1.1.1.1.0.1.1 i 0 ≤ length p.0.1.1
+-- rows, each of which keeps its rules, have these columns
+pub record AreColumnsOf (p : Parts) (rows : List Charge) : Type 0 where
+  pub charges : All IsCharge rows
+  pub fields : p ≡ fields_of_rows (names_of rows) rows
 
--- why a row isn't added: its fields don't agree, which is a fault with so many bytes left
-abbrev pub Refuses : Fields → ℕ → ReadError → Type 0
-Refuses f left errors.NoMemory = Unit {0}
-Refuses f left (errors.Corrupt at) = (at ≡ left) × (fields_agree f ≡ false)
+-- no rows, 1 to 65,536 of them that each have a spelling, have these columns
+abbrev pub HaveNoRows : Parts → Type 0
+HaveNoRows p = (rows : List Charge) → AreRows rows → ¬ AreColumnsOf p rows
 
--- the rows of fields that agree; else a fault with so many bytes left
-unfoldable pub agreeing_rows : Parts → ℕ → Result (List Charge) ℕ
-agreeing_rows p left = if list_all fields_agree (rows_fields p) then Ok (rows_from p) else Err left
+-- names, first seconds and flags as rows keep them, of what was read
+pub record IsRewritten (w : PartsRead) (k : Rewritten) : Type 0 where
+  pub names : k.names ≡ map string_bytes w.front.names.items
+  pub starts : k.starts.items ≡ map pos w.body.periods.starts.items
+  pub has_quantity : k.has_quantity.items ≡ map (λ byte. byte == 1) w.body.quantities.are_there.items
+
+-- parts whose columns are those that were read, but for how names, first seconds and flags are kept
+pub record AreReadIn (p : taken.Parts) (w : PartsRead) : Type 0 where
+  pub names : p.names ≡ map string_bytes w.front.names.items
+  pub tags : p.tags ≡ w.body.tags
+  pub billed : p.billed.items ≡ w.body.amounts.billed.items
+  pub effective : p.effective.items ≡ w.body.amounts.effective.items
+  pub categories : p.categories.items ≡ w.body.amounts.categories.items
+  pub classes : p.classes.items ≡ w.body.amounts.classes.items
+  pub starts : p.starts.items ≡ map pos w.body.periods.starts.items
+  pub ends : p.ends.items ≡ w.body.periods.ends.items
+  pub discounts : p.discounts.items ≡ w.body.discounts.ids.items
+  pub kinds : p.kinds.items ≡ w.body.discounts.kinds.items
+  pub statuses : p.statuses.items ≡ w.body.discounts.statuses.items
+  pub has_quantity : p.has_quantity.items ≡ map (λ byte. byte == 1) w.body.quantities.are_there.items
+  pub quantities : p.quantities.items ≡ w.body.quantities.counts.items
+  pub units : p.units.items ≡ w.body.texts.units.items
+  pub skus : p.skus.items ≡ w.body.texts.skus.items
+  pub sub_accounts : p.sub_accounts.items ≡ w.body.texts.sub_accounts.items

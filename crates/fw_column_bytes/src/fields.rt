@@ -1,11 +1,13 @@
 //! Readers of single columns. Each returns the values and the bytes after them. Memory is taken as each value is read, not for their number.
-ghost use Rattle.std.specs.Prelude.{◌≡◌, map, string_bytes};
+ghost use Rattle.std.specs.Prelude.{◌≡◌, ◌≤◌, map, string_bytes};
 ghost use Rattle.fw_bytes.specs.Reading.{Gives, times};
+ghost use Rattle.fw_row_table.specs.Table.{most_column_rows};
 ghost use Rattle.fw_fields.specs.Reading.{nanos_at, second_at, tag_text_at};
 ghost use Rattle.fw_column_bytes.specs.Reading.{byte_at, is_text_code, names_at, place_at, tag_places_at, text_code_at};
 
 use fw_bytes::{ReadError, u32_at};
 use fw_charge::{Tags, is_short_text};
+use fw_columns::RowLists;
 use fw_fields::{nanos_of, second_of, tag_text_of};
 use std::alloc::Global;
 
@@ -127,7 +129,7 @@ pub fn text_codes_after<'a>(
 
 /// The place of the name with a code.
 #[tactic(auto, unfolding(crate::specs::Reading::place_at, fw_bytes::specs::Reading::checked, fw_bytes::specs::Reading::seen))]
-pub fn place_of<'a>(names: &[String], bytes: &'a [u8]) -> Result<(u32, &'a [u8]), ReadError>
+fn place_of<'a>(names: &[String], bytes: &'a [u8]) -> Result<(u32, &'a [u8]), ReadError>
     ensures { Gives (λ x. (x.0, x.1.now)) result (place_at (map string_bytes names.now) bytes.now) }
 {
     let (code, rest) = u32_at(bytes)?;
@@ -137,59 +139,61 @@ pub fn place_of<'a>(names: &[String], bytes: &'a [u8]) -> Result<(u32, &'a [u8])
     Ok((code - 1, rest))
 }
 
-/// The places of so many names.
-fn places_after<'a>(
-    alloc: Global,
+/// The places of so many names, into a list that is kept for that.
+fn places_into<'a>(
+    list: &mut Vec<u32>,
     names: &[String],
     count: u32,
     bytes: &'a [u8],
-) -> Result<(Vec<u32>, &'a [u8]), ReadError>
-    ensures { Gives (λ x. (x.0.items, x.1.now)) result
+) -> Result<&'a [u8], ReadError>
+    ensures { Gives (λ x. (list.new.items, x.now)) result
         (times (place_at (map string_bytes names.now)) count bytes.now) }
 {
-    let mut column = Vec::new(alloc);
+    list.clear();
     let mut rest = bytes;
     for _ in 0..count {
         let (value, after) = place_of(names, rest)?;
-        column.push(value)?;
+        list.push(value)?;
         rest = after;
     }
-    Ok((column, rest))
+    Ok(rest)
 }
 
-/// The places of the texts of the tags of a row.
+/// The places of the texts of the tags of a row, into a list that is kept for that.
 #[tactic(auto, unfolding(crate::specs::Reading::tag_places_at, crate::specs::Reading::tag_count_at, fw_bytes::specs::Reading::checked))]
-fn tag_places_of<'a>(
-    alloc: Global,
+fn tag_places_into<'a>(
+    list: &mut Vec<u32>,
     names: &[String],
     bytes: &'a [u8],
-) -> Result<(Vec<u32>, &'a [u8]), ReadError>
-    ensures { Gives (λ x. (x.0.items, x.1.now)) result
+) -> Result<&'a [u8], ReadError>
+    ensures { Gives (λ x. (list.new.items, x.now)) result
         (tag_places_at (map string_bytes names.now) bytes.now) }
 {
     let (count, rest) = u32_at(bytes)?;
     if count > Tags::MOST as u32 {
         return Err(ReadError::Corrupt(bytes.len()));
     }
-    let (places, rest) = places_after(alloc, names, 2 * count, rest)?;
-    Ok((places, rest))
+    let rest = places_into(list, names, 2 * count, rest)?;
+    Ok(rest)
 }
 
-/// The places of the texts of the tags of so many rows.
-pub fn tag_lists_after<'a>(
+/// The places of the texts of the tags of so many rows, each list of them once.
+pub fn row_lists_after<'a>(
     alloc: Global,
     names: &[String],
     count: u32,
     bytes: &'a [u8],
-) -> Result<(Vec<Vec<u32>>, &'a [u8]), ReadError>
-    ensures { Gives (λ x. (map (λ list. list.items) x.0.items, x.1.now)) result
+) -> Result<(RowLists, &'a [u8]), ReadError>
+    requires { count ≤ most_column_rows }
+    ensures { Gives (λ x. (x.0, x.1.now)) result
         (times (tag_places_at (map string_bytes names.now)) count bytes.now) }
 {
-    let mut column = Vec::new(alloc);
+    let mut column = RowLists::new(alloc);
+    let mut list = Vec::new(alloc);
     let mut rest = bytes;
     for _ in 0..count {
-        let (value, after) = tag_places_of(alloc, names, rest)?;
-        column.push(value)?;
+        let after = tag_places_into(&mut list, names, rest)?;
+        column.push(list.as_slice())?;
         rest = after;
     }
     Ok((column, rest))

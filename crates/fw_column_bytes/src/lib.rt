@@ -5,7 +5,6 @@
 //! and a file without a look at each row.
 #![tactic(auto)]
 
-mod direct;
 mod fields;
 mod reading;
 mod rows;

@@ -1,16 +1,17 @@
 //! The reader of rows by column.
-ghost use Rattle.std.specs.Prelude.{map, string_bytes};
+ghost use Rattle.std.specs.Prelude.{◌≤◌, map, string_bytes};
 ghost use Rattle.fw_bytes.specs.Reading.{Gives};
 ghost use Rattle.fw_column_bytes.specs.Reading.{amounts_at, body_at, byte_at, discounts_at, front_at, parts_at, periods_at, quantities_at, row_count_at, texts_at};
 ghost use Rattle.fw_column_bytes.specs.Spelling.{layout};
+ghost use Rattle.fw_row_table.specs.Table.{most_column_rows};
 ghost use Rattle.fw_column_bytes.specs.PartsView.{amounts_view, body_view, discounts_view, front_view, parts_view, periods_view, quantities_view, texts_view};
 
 use crate::fields::{
-    amounts_after, bytes_after, names_of, seconds_after, tag_lists_after, text_codes_after,
+    amounts_after, bytes_after, names_of, row_lists_after, seconds_after, text_codes_after,
 };
 use fw_bytes::{ReadError, u32_at};
 use fw_charge::Category;
-use fw_columns::Columns;
+use fw_columns::{Columns, RowLists};
 use std::alloc::Global;
 
 /// How many rows there are, and the names.
@@ -59,7 +60,7 @@ pub struct TextsRead {
     pub sub_accounts: Vec<u32>,
 }
 
-/// The columns, each value in its range.
+/// The columns, each value in its range, and each list of tags once.
 #[derive(Drop)]
 pub struct BodyRead {
     pub amounts: AmountsRead,
@@ -67,7 +68,7 @@ pub struct BodyRead {
     pub discounts: DiscountsRead,
     pub quantities: QuantitiesRead,
     pub texts: TextsRead,
-    pub tags: Vec<Vec<u32>>,
+    pub tags: RowLists,
 }
 
 /// What was read, each field in its range.
@@ -100,7 +101,7 @@ fn layout_of(bytes: &[u8]) -> Result<(u8, &[u8]), ReadError>
 }
 
 #[tactic(auto, unfolding(crate::specs::Reading::front_at, fw_bytes::specs::Reading::both))]
-pub fn front_of(alloc: Global, bytes: &[u8]) -> Result<(FrontRead, &[u8]), ReadError>
+fn front_of(alloc: Global, bytes: &[u8]) -> Result<(FrontRead, &[u8]), ReadError>
     ensures { Gives (λ x. (front_view x.0, x.1.now)) result (front_at bytes.now) }
 {
     let (_layout, rest) = layout_of(bytes)?;
@@ -110,11 +111,7 @@ pub fn front_of(alloc: Global, bytes: &[u8]) -> Result<(FrontRead, &[u8]), ReadE
 }
 
 #[tactic(auto, unfolding(crate::specs::Reading::amounts_at, fw_bytes::specs::Reading::both))]
-pub fn amounts_of(
-    alloc: Global,
-    count: u32,
-    bytes: &[u8],
-) -> Result<(AmountsRead, &[u8]), ReadError>
+fn amounts_of(alloc: Global, count: u32, bytes: &[u8]) -> Result<(AmountsRead, &[u8]), ReadError>
     ensures { Gives (λ x. (amounts_view x.0, x.1.now)) result (amounts_at count bytes.now) }
 {
     let (billed, rest) = amounts_after(alloc, count, bytes)?;
@@ -131,11 +128,7 @@ pub fn amounts_of(
 }
 
 #[tactic(auto, unfolding(crate::specs::Reading::periods_at, fw_bytes::specs::Reading::both))]
-pub fn periods_of(
-    alloc: Global,
-    count: u32,
-    bytes: &[u8],
-) -> Result<(PeriodsRead, &[u8]), ReadError>
+fn periods_of(alloc: Global, count: u32, bytes: &[u8]) -> Result<(PeriodsRead, &[u8]), ReadError>
     ensures { Gives (λ x. (periods_view x.0, x.1.now)) result (periods_at count bytes.now) }
 {
     let (starts, rest) = seconds_after(alloc, count, bytes)?;
@@ -144,7 +137,7 @@ pub fn periods_of(
 }
 
 #[tactic(auto, unfolding(crate::specs::Reading::discounts_at, fw_bytes::specs::Reading::both))]
-pub fn discounts_of<'a>(
+fn discounts_of<'a>(
     alloc: Global,
     names: &[String],
     count: u32,
@@ -165,7 +158,7 @@ pub fn discounts_of<'a>(
 }
 
 #[tactic(auto, unfolding(crate::specs::Reading::quantities_at, fw_bytes::specs::Reading::both))]
-pub fn quantities_of(
+fn quantities_of(
     alloc: Global,
     count: u32,
     bytes: &[u8],
@@ -178,7 +171,7 @@ pub fn quantities_of(
 }
 
 #[tactic(auto, unfolding(crate::specs::Reading::texts_at, fw_bytes::specs::Reading::both))]
-pub fn texts_of<'a>(
+fn texts_of<'a>(
     alloc: Global,
     names: &[String],
     count: u32,
@@ -205,6 +198,7 @@ fn body_of<'a>(
     count: u32,
     bytes: &'a [u8],
 ) -> Result<(BodyRead, &'a [u8]), ReadError>
+    requires { count ≤ most_column_rows }
     ensures { Gives (λ x. (body_view x.0, x.1.now)) result
         (body_at (map string_bytes names.now) count bytes.now) }
 {
@@ -213,7 +207,7 @@ fn body_of<'a>(
     let (discounts, rest) = discounts_of(alloc, names, count, rest)?;
     let (quantities, rest) = quantities_of(alloc, count, rest)?;
     let (texts, rest) = texts_of(alloc, names, count, rest)?;
-    let (tags, rest) = tag_lists_after(alloc, names, count, rest)?;
+    let (tags, rest) = row_lists_after(alloc, names, count, rest)?;
     let body = BodyRead {
         amounts,
         periods,

@@ -193,7 +193,7 @@ fn quoted_len(text: &[u8]) -> usize
 /// How many bytes within quotes are looked at together.
 const BLOCK: usize = 32;
 
-// Where bytes within quotes end that are passed one by one: before the quote that closes the field, and where that is far behind a block's bytes or more.
+// Where up to a block of bytes within quotes ends that are looked at one by one: it ends before a quote that closes the field.
 fn bytes_end(text: &[u8], from: usize) -> usize
     requires within { from ≤ length text.now }
     requires goes { GoesOn Quoted (take from text.now) Quoted }

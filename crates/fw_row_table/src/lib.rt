@@ -15,12 +15,11 @@ mod reading;
 mod table;
 mod table_lengths;
 
-pub use codes::quantity_of;
 pub use lending::{LentDiscount, LentRow, LentTag, LentTags, RowView, lent_row, lent_tags};
 pub use lists::Lists;
 pub use names::Names;
 pub use naming::{see_names, see_tags};
 pub use packed::Packed;
-pub use reading::{amount_at, category_at, class_at, fields_at};
+pub use reading::{category_at, fields_at};
 pub use table::Table;
 pub use table_lengths::Lengths;
