@@ -118,7 +118,3 @@ pub passed-one : (text : List ℕ) (n : ℕ) → n < length text → get_or text
 passed-one text n lt h so =
     let no : (get_or text n 0 == 34) ≡ false = is-not (get_or text n 0) 34 h in
     rw no (quoted-more text n lt h so)
-
-pub neither : (a b : Bool) → (a || b) ≡ false → (a ≡ false) × (b ≡ false)
-neither true b e = absurd (cc e)
-neither false b e = (refl, e)
