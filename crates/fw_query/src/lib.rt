@@ -20,7 +20,7 @@ mod too_large;
 
 pub use entries::{Entry, Report};
 pub use fault::QueryFault;
-pub use fw_sums::{Covers, MOST_HOURS, Query};
+pub use fw_sums::{MOST_HOURS, Query, ReportCache};
 pub use laws::{
     answers_are_one, charged_is_direct, commitments_are_carried, reports_keep_the_total,
     rows_are_counted_once, there_are_lines, what_is_withdrawn_changes_no_other_hours,

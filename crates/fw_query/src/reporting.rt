@@ -1,6 +1,6 @@
 //! A report over a snapshot.
 ghost use Rattle.std.specs.Prelude.{◌≡◌, ◌≤◌, map, IfErr, IfOk};
-ghost use Rattle.fw_sums.specs.Covers.{AreKept};
+ghost use Rattle.fw_sums.specs.ReportCache.{AreKept};
 ghost use Rattle.fw_sums.specs.Limits.{IsRange};
 ghost use Rattle.fw_sums.specs.Totals.{HasTotals};
 ghost use Rattle.fw_query.specs.Entries.{plain_entry};
@@ -14,7 +14,7 @@ use crate::fault::QueryFault;
 use crate::shown::Shown;
 use crate::too_large::first_past;
 use fw_snapshot::{Snapshot, State};
-use fw_sums::{Covers, Query, Total, totals_alone, totals_keeping};
+use fw_sums::{Query, ReportCache, Total, totals_alone, totals_keeping};
 use std::alloc::{AllocError, Global};
 use std::thread::Threads;
 
@@ -41,8 +41,8 @@ pub fn report(
     ensures fault { IfErr result (IsRefused (commitments_of snapshot.now.entries)
         (rows_of snapshot.now.entries) query.now.key.now query.now.from_hour query.now.to_hour) }
 {
-    let mut covers = Covers::new(alloc);
-    report_keeping(rt, alloc, snapshot, &mut covers, query, workers)
+    let mut cache = ReportCache::new(alloc);
+    report_keeping(rt, alloc, snapshot, &mut cache, query, workers)
 }
 
 /// The same report, by what reports before it kept of what the commitments bring to an hour and the rows of a segment to the sums; what this one
@@ -51,16 +51,16 @@ pub fn report_keeping(
     rt: &(impl Threads + Sync),
     alloc: Global,
     snapshot: &Snapshot,
-    covers: &mut Covers,
+    cache: &mut ReportCache,
     query: &Query<'_>,
     workers: u32,
 ) -> Result<Report, QueryFault>
     requires some_workers { 1 ≤ workers }
     requires few_workers { workers ≤ 64 }
     requires kept { AreKept (commitments_of snapshot.now.entries)
-        (rows_of snapshot.now.entries) covers.old }
+        (rows_of snapshot.now.entries) cache.old }
     ensures kept { AreKept (commitments_of snapshot.now.entries)
-        (rows_of snapshot.now.entries) covers.new }
+        (rows_of snapshot.now.entries) cache.new }
     ensures range { IfOk result (λ _. IsRange query.now.from_hour query.now.to_hour) }
     ensures report { IfOk result (IsReport (commitments_of snapshot.now.entries)
         (rows_of snapshot.now.entries)
@@ -72,7 +72,7 @@ pub fn report_keeping(
         return Err(QueryFault::Range);
     }
     let shown = Shown::of(alloc, snapshot.state())?;
-    report_on(rt, alloc, &shown, covers, query, workers)
+    report_on(rt, alloc, &shown, cache, query, workers)
 }
 
 /// The same report by one worker, in the thread that asks.
@@ -100,16 +100,16 @@ fn report_on(
     rt: &(impl Threads + Sync),
     alloc: Global,
     shown: &Shown,
-    covers: &mut Covers,
+    cache: &mut ReportCache,
     query: &Query<'_>,
     workers: u32,
 ) -> Result<Report, QueryFault>
     requires range { IsRange query.now.from_hour query.now.to_hour }
     requires some_workers { 1 ≤ workers }
     requires kept { AreKept (commitments_of shown.now.entries)
-        (rows_of shown.now.entries) covers.old }
+        (rows_of shown.now.entries) cache.old }
     ensures kept { AreKept (commitments_of shown.now.entries)
-        (rows_of shown.now.entries) covers.new }
+        (rows_of shown.now.entries) cache.new }
     ensures report { IfOk result (IsReport (commitments_of shown.now.entries)
         (rows_of shown.now.entries) (policy_of shown.now.entries) query.now.key.now
         query.now.from_hour query.now.to_hour) }
@@ -123,7 +123,7 @@ fn report_on(
         alloc,
         segments.as_slice(),
         state.commitment_list(),
-        covers,
+        cache,
         query,
         workers,
     )?;

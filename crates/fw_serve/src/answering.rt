@@ -2,7 +2,7 @@
 ghost use Rattle.std.specs.Prelude.{◌≡◌, ◌≤◌, ◌⊎◌, Ok};
 ghost use Rattle.fw_entry.specs.Spelling.{HasRowCount, IsEntry};
 ghost use Rattle.fw_entry.specs.View.{command_view};
-ghost use Rattle.fw_sums.specs.Covers.{AreKept};
+ghost use Rattle.fw_sums.specs.ReportCache.{AreKept};
 ghost use Rattle.fw_script.specs.Plain as plain;
 ghost use Rattle.fw_script.specs.Plain.{plain_command};
 ghost use Rattle.fw_serve.specs.Answers.{Answer, Entered, Takes, Submits, Checkpoints, RanOut};
@@ -19,7 +19,7 @@ use crate::reply::Reply;
 use fw_ahead::Posts;
 use fw_disk::Volume;
 use fw_entry::{Command as EntryCommand, Entry};
-use fw_query::Covers;
+use fw_query::ReportCache;
 use fw_recover::Store;
 use fw_script::{Command, EntryKind, sequence_number};
 use std::alloc::Global;
@@ -37,7 +37,7 @@ pub(crate) fn answer<V: Volume>(
     rt: &(impl Threads + Sync),
     alloc: Global,
     store: &mut Store<V>,
-    covers: &mut Covers,
+    cache: &mut ReportCache,
     posts: &mut Posts,
     command: Command<'_>,
     workers: u32,
@@ -45,9 +45,9 @@ pub(crate) fn answer<V: Volume>(
     requires some_workers { 1 ≤ workers }
     requires few_workers { workers ≤ most_workers }
     requires kept { AreKept (commitments_of store.old.history.entries)
-        (rows_of store.old.history.entries) covers.old }
+        (rows_of store.old.history.entries) cache.old }
     ensures kept { AreKept (commitments_of store.new.history.entries)
-        (rows_of store.new.history.entries) covers.new }
+        (rows_of store.new.history.entries) cache.new }
     ensures answer { Answer (standing_of V.view store.old) (plain_command command.entry)
         (reply_text result) (standing_of V.view store.new) }
     ensures moves { Moves V.tells V.view (FailsOnSent (standing_of V.view store.old)
@@ -60,13 +60,13 @@ pub(crate) fn answer<V: Volume>(
             sequence,
             content,
         } => {
-            covers.clear();
+            cache.clear();
             enter(rt, alloc, store, posts, kind, origin, sequence, content)
         }
         Command::Checkpoint => checkpoint(alloc, store),
         Command::Report { key, from, to } => {
             store.settle();
-            answer_report(rt, alloc, store.state(), covers, key, from, to, workers)
+            answer_report(rt, alloc, store.state(), cache, key, from, to, workers)
         }
         Command::Lines { from, to } => {
             store.settle();

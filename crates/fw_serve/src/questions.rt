@@ -1,6 +1,6 @@
 //! Questions, which are answered from the state of a warehouse and change nothing.
 ghost use Rattle.std.specs.Prelude.{◌≡◌, ◌≤◌};
-ghost use Rattle.fw_sums.specs.Covers.{AreKept};
+ghost use Rattle.fw_sums.specs.ReportCache.{AreKept};
 ghost use Rattle.fw_snapshot.specs.History.{commitments_of, rows_of};
 ghost use Rattle.fw_serve.specs.Questions.{IsReportText, ReportAnswer, LinesAnswer};
 ghost use Rattle.fw_serve.specs.Replies.{state_line};
@@ -9,7 +9,7 @@ ghost use Rattle.fw_serve.specs.Served.{most_workers};
 
 use crate::refusals::query_reply;
 use crate::reply::Reply;
-use fw_query::{Covers, Query, QueryFault, lines_csv, report_csv, report_keeping};
+use fw_query::{Query, QueryFault, ReportCache, lines_csv, report_csv, report_keeping};
 use fw_snapshot::Snapshot;
 use std::alloc::Global;
 use std::thread::Threads;
@@ -32,7 +32,7 @@ pub(crate) fn answer_report(
     rt: &(impl Threads + Sync),
     alloc: Global,
     snapshot: &Snapshot,
-    covers: &mut Covers,
+    cache: &mut ReportCache,
     key: &str,
     from: u64,
     to: u64,
@@ -41,12 +41,12 @@ pub(crate) fn answer_report(
     requires some_workers { 1 ≤ workers }
     requires few_workers { workers ≤ most_workers }
     requires kept { AreKept (commitments_of snapshot.now.entries) (rows_of snapshot.now.entries)
-        covers.old }
+        cache.old }
     ensures kept { AreKept (commitments_of snapshot.now.entries) (rows_of snapshot.now.entries)
-        covers.new }
+        cache.new }
     ensures answer { ReportAnswer snapshot.now key.now from to (reply_text result) }
 {
-    match report_text(rt, alloc, snapshot, covers, key, from, to, workers) {
+    match report_text(rt, alloc, snapshot, cache, key, from, to, workers) {
         Ok(text) => Reply::Text(text),
         Err(fault) => query_reply(&fault),
     }
@@ -57,7 +57,7 @@ fn report_text(
     rt: &(impl Threads + Sync),
     alloc: Global,
     snapshot: &Snapshot,
-    covers: &mut Covers,
+    cache: &mut ReportCache,
     key: &str,
     from: u64,
     to: u64,
@@ -66,9 +66,9 @@ fn report_text(
     requires some_workers { 1 ≤ workers }
     requires few_workers { workers ≤ most_workers }
     requires kept { AreKept (commitments_of snapshot.now.entries) (rows_of snapshot.now.entries)
-        covers.old }
+        cache.old }
     ensures kept { AreKept (commitments_of snapshot.now.entries) (rows_of snapshot.now.entries)
-        covers.new }
+        cache.new }
     ensures text { IsReportText snapshot.now key.now from to result }
 {
     let query = Query {
@@ -76,7 +76,7 @@ fn report_text(
         from_hour: from,
         to_hour: to,
     };
-    let report = report_keeping(rt, alloc, snapshot, covers, &query, workers)?;
+    let report = report_keeping(rt, alloc, snapshot, cache, &query, workers)?;
     Ok(report_csv(alloc, &report)?)
 }
 

@@ -13,7 +13,7 @@ use crate::input::read_script;
 use crate::writing::write_reply;
 use fw_ahead::Posts;
 use fw_disk::Volume;
-use fw_query::Covers;
+use fw_query::ReportCache;
 use fw_recover::Store;
 use fw_script::ScriptText;
 use std::alloc::Global;
@@ -99,10 +99,10 @@ fn answer_all<W: Write, V: Volume>(
         (W.contents writer.new) }
 {
     let mut script = text.commands();
-    let mut covers = Covers::new(alloc);
+    let mut cache = ReportCache::new(alloc);
     while let Some(command) = script.next_command() {
         store.keeps();
-        let reply = answer(rt, alloc, store, &mut covers, posts, command, workers);
+        let reply = answer(rt, alloc, store, &mut cache, posts, command, workers);
         store.keeps();
         write_reply(writer, &reply)?;
     }

@@ -10,12 +10,12 @@ use Rattle.fw_cover.specs.declared.hour.HourCover.{HourCover}
 use Rattle.fw_cover.specs.HourCovers.{IsHourCover}
 use Rattle.fw_sums.specs.Corrections.{corrections}
 use Rattle.fw_sums.specs.Costs.{Cost, costs_of}
-use Rattle.fw_sums.specs.Covers.{AreKeptUnder, AreOwnSums, IsFound, IsKept, KeepsMore, kept_at}
+use Rattle.fw_sums.specs.ReportCache.{AreKeptUnder, AreOwnSums, IsFound, IsKept, KeepsMore, kept_at}
 use Rattle.fw_sums.specs.Hours.{row_cost}
 use Rattle.fw_sums.specs.Sums.{Counts, CountsHour}
-use Rattle.fw_sums.specs.declared.covers.HourSum.{HourSum}
-use Rattle.fw_sums.specs.declared.covers.HourSums.{HourSums}
-use Rattle.fw_sums.specs.declared.covers.KeySums.{KeySums}
+use Rattle.fw_sums.specs.declared.cache.HourSum.{HourSum}
+use Rattle.fw_sums.specs.declared.cache.HourSums.{HourSums}
+use Rattle.fw_sums.specs.declared.cache.KeySums.{KeySums}
 use Rattle.fw_sums.specs.declared.groups.Groups.{Groups}
 use Rattle.fw_sums.proofs.CorrectionFacts.{hour_corrected}
 

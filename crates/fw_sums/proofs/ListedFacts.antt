@@ -32,7 +32,7 @@ use Rattle.fw_row_table.specs.Texts.{names_of}
 use Rattle.fw_row_table.proofs.NameFacts.{place-missing}
 use Rattle.fw_sums.specs.Corrections.{correction_of, corrections}
 use Rattle.fw_sums.specs.Costs.{costs_of}
-use Rattle.fw_sums.specs.Covers.{AreOwnSums}
+use Rattle.fw_sums.specs.ReportCache.{AreOwnSums}
 use Rattle.fw_sums.specs.Hours.{HasRow, IsThere, lent, row_at, row_places, row_places_at, row_places_there, rows_at, rows_there}
 use Rattle.fw_sums.specs.Listed.{AreListed, AreOffersOf, IsOnly, found_at, is_marked_code, is_nothing, may_be_listed}
 use Rattle.fw_sums.specs.Sums.{Counts}

@@ -6,9 +6,9 @@ use Rattle.std.specs.List.{range_with_len}
 use Rattle.fw_charge.specs.Charge.{Charge, hour_of}
 use Rattle.fw_terms.specs.Commitment.{CommitmentValue}
 use Rattle.fw_amortise.specs.Lines.{rows_in}
-use Rattle.fw_sums.specs.Covers.{AreOpen, AreOpenByHour, KeepsMore, is_open, kept_at}
+use Rattle.fw_sums.specs.ReportCache.{AreOpen, AreOpenByHour, KeepsMore, is_open, kept_at}
 use Rattle.fw_sums.specs.Hours.{AreByHour, AreThere, AreTouched, IsThere, is_touched, rows_at, rows_marked}
-use Rattle.fw_sums.specs.declared.covers.HourSums.{HourSums}
+use Rattle.fw_sums.specs.declared.cache.HourSums.{HourSums}
 use Rattle.fw_sums.specs.declared.groups.Groups.{Groups}
 use Rattle.fw_sums.specs.declared.hours.HourPlace.{HourPlace}
 use Rattle.fw_sums.specs.declared.open_hours.OpenHours.{OpenHours}

@@ -9,4 +9,4 @@ pub mod CodeSums
 pub mod Corrections
 pub mod Wholes
 pub mod Listed
-pub mod Covers
+pub mod ReportCache

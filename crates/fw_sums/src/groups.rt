@@ -4,13 +4,13 @@ ghost use Rattle.std.specs.List.{range_with_len};
 ghost use Rattle.fw_amortise.specs.Lines.{rows_in};
 ghost use Rattle.fw_cover.specs.RosterView.{HasHour};
 ghost use Rattle.fw_sums.specs.Costs.{Cost, costs_of};
-ghost use Rattle.fw_sums.specs.Covers.{AreKeptUnder, AreOpen, AreOpenByHour, AreOwnSums, kept_at};
+ghost use Rattle.fw_sums.specs.ReportCache.{AreKeptUnder, AreOpen, AreOpenByHour, AreOwnSums, kept_at};
 ghost use Rattle.fw_sums.specs.Hours.{AreTouched, HasHours, IsThere, all_rows, lent, row_cost, rows_at, rows_marked};
 ghost use Rattle.fw_sums.specs.Listed.{AreListed};
 ghost use Rattle.fw_sums.specs.Sums.{AddsLine, AreAmounts, AreSums, Counts, CountsHour, CountsHours, HasRoom, IsInOrder, kept_total, sums_at};
 ghost use Rattle.fw_sums.specs.Totals.{AreTotals};
 
-use crate::covers::HourSums;
+use crate::cache::HourSums;
 use crate::hours::HourPlace;
 use crate::listed::Listed;
 use crate::open_hours::OpenHours;

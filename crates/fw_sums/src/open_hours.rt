@@ -1,10 +1,10 @@
 //! The hours of a range that commitments have lines in, and of which nothing is kept.
 ghost use Rattle.std.specs.Prelude.{◌≡◌, ◌+◌, ◌<◌, ◌^◌, All, IfOk, IfSome, false, length, slice_index_or};
-ghost use Rattle.fw_sums.specs.Covers.{AreFound, AreKeptUnder, AreOpen, CanFind, IsFound, KeepsMore};
+ghost use Rattle.fw_sums.specs.ReportCache.{AreFound, AreKeptUnder, AreOpen, CanFind, IsFound, KeepsMore};
 ghost use Rattle.fw_sums.specs.Hours.{HasHours, all_rows, lent};
 ghost use Rattle.fw_sums.specs.Listed.{AreListed};
 
-use crate::covers::{HourSum, HourSums};
+use crate::cache::{HourSum, HourSums};
 use crate::groups::Groups;
 use crate::hours::{HourPlace, rows_by_hour};
 use crate::listed::Listed;

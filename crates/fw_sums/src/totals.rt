@@ -1,6 +1,6 @@
 //! What the lines of a range of hours come to.
 ghost use Rattle.std.specs.Prelude.{◌≤◌, ◌-◌, IfOk};
-ghost use Rattle.fw_sums.specs.Covers.{AreKept, AreKeptUnder, AreOpen};
+ghost use Rattle.fw_sums.specs.ReportCache.{AreKept, AreKeptUnder, AreOpen};
 ghost use Rattle.fw_sums.specs.Hours.{HasHours, all_rows, lent};
 ghost use Rattle.fw_sums.specs.Listed.{AreListed};
 ghost use Rattle.fw_sums.specs.Limits.{IsRange};
@@ -8,7 +8,7 @@ ghost use Rattle.fw_sums.specs.Parts.{range_costs};
 ghost use Rattle.fw_sums.specs.Sums.{Counts};
 ghost use Rattle.fw_sums.specs.Totals.{HasTotals};
 
-use crate::covers::{Covers, HourSums};
+use crate::cache::{HourSums, ReportCache};
 use crate::groups::Groups;
 use crate::listed::Listed;
 use crate::marks::every_hour;
@@ -32,19 +32,19 @@ pub fn totals_keeping<'a>(
     alloc: Global,
     segments: &[&'a Columns],
     commitments: &'a [Commitment],
-    covers: &mut Covers,
+    cache: &mut ReportCache,
     query: &Query<'_>,
     workers: u32,
 ) -> Result<Vec<Total>, AllocError>
     requires range { IsRange query.now.from_hour query.now.to_hour }
     requires some_workers { 1 ≤ workers }
-    requires kept { AreKept commitments.now (all_rows (lent segments.now)) covers.old }
-    ensures kept { AreKept commitments.now (all_rows (lent segments.now)) covers.new }
+    requires kept { AreKept commitments.now (all_rows (lent segments.now)) cache.old }
+    ensures kept { AreKept commitments.now (all_rows (lent segments.now)) cache.new }
     ensures totals { IfOk result (λ totals. HasTotals commitments.now
         (all_rows (lent segments.now)) query.now.key.now query.now.from_hour query.now.to_hour
         totals.items) }
 {
-    let mut kept = covers.take(query.key, segments);
+    let mut kept = cache.take(query.key, segments);
     let rows = Groups::of_wholes(
         rt,
         alloc,
@@ -84,7 +84,7 @@ pub fn totals_keeping<'a>(
         &hours,
         query,
     )?;
-    covers.put(query.key, kept);
+    cache.put(query.key, kept);
     Ok(totals)
 }
 

@@ -7,7 +7,7 @@ ghost use Rattle.fw_sums.specs.Parts.{PartCounts, range_costs};
 ghost use Rattle.fw_sums.specs.Sums.{Counts};
 ghost use Rattle.fw_sums.specs.Wholes.{AreDivided, AreWholes, IsBetween, IsWhole, whole_at};
 
-use crate::covers::MOST_GROUPS;
+use crate::cache::MOST_GROUPS;
 use crate::groups::Groups;
 use crate::marks::every_hour;
 use crate::query::MOST_HOURS;

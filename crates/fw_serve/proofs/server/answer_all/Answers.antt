@@ -11,7 +11,7 @@ pub loop-command-init : goal.loop-command-init
 loop-command-init g c = record {
   so_far = ServesSoFar-none _ _ _ _ c.commands-script.ensures;
   runs = RunsSoFar-none _ _ _ _ _ _ c.commands-script.ensures;
-  kept = c.new-covers.ensures.kept _ _;
+  kept = c.new-cache.ensures.kept _ _;
 }
 
 pub returns-in_err-write_reply-clause-write : goal.returns-in_err-write_reply-clause-write

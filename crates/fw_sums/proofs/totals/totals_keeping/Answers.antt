@@ -1,5 +1,5 @@
 use Rattle.std.proofs.Common.{◌≡◌, ◌-◌, length, arith}
-use Rattle.fw_sums.specs.Covers.{AreOpen}
+use Rattle.fw_sums.specs.ReportCache.{AreOpen}
 use Rattle.fw_sums.specs.Hours.{all_rows, lent}
 use Rattle.fw_sums.proofs.HourFacts.{by_hour_long}
 use Rattle.fw_sums.proofs.TurnFacts.{open_still}

@@ -2,7 +2,7 @@ use Rattle.std.proofs.Common.{◌≡◌, ◌++◌, List, map}
 use Rattle.std.proofs.lemmas.Result.{IfOk-weaker}
 use Rattle.fw_amortise.specs.Lines.{rows_in}
 use Rattle.fw_sums.specs.Costs.{Cost}
-use Rattle.fw_sums.specs.Covers.{AreOwnSums}
+use Rattle.fw_sums.specs.ReportCache.{AreOwnSums}
 use Rattle.fw_sums.specs.Hours.{all_rows, lent, row_cost, rows_at}
 use Rattle.fw_sums.specs.Sums.{Counts, CountsHour}
 use Rattle.fw_sums.proofs.CoverFacts.{own_added}

@@ -1,5 +1,5 @@
 use Rattle.std.proofs.Common.{◌≡◌, ◌+◌, ◌≤◌, ℕ, drop, length, replicate, true}
-use Rattle.fw_sums.specs.Covers.{AreKeptUnder, kept_at}
+use Rattle.fw_sums.specs.ReportCache.{AreKeptUnder, kept_at}
 use Rattle.fw_sums.specs.Hours.{all_rows, lent}
 use Rattle.fw_sums.specs.Sums.{CountsHours}
 use Rattle.fw_sums.proofs.CountedFacts.{hours_of, marked_costs}

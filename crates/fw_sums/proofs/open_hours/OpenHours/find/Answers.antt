@@ -1,6 +1,6 @@
 use Rattle.std.proofs.Common.{◌≡◌, ◌∙◌, ◌+◌, ◌-◌, ◌<◌, ap, arith, false, get_or, length, refl, sym, true}
 use Rattle.fw_amortise.specs.Lines.{rows_in}
-use Rattle.fw_sums.specs.Covers.{IsFound}
+use Rattle.fw_sums.specs.ReportCache.{IsFound}
 use Rattle.fw_sums.specs.Hours.{all_rows, lent, rows_at}
 use Rattle.fw_sums.proofs.TurnFacts.{all_in_turn}
 use Rattle.fw_sums.proofs.open_hours.OpenHours.find.Goals as goal

@@ -1,5 +1,5 @@
 use Rattle.std.proofs.Common.{All}
-use Rattle.fw_sums.specs.Covers.{IsFound}
+use Rattle.fw_sums.specs.ReportCache.{IsFound}
 use Rattle.fw_sums.specs.Hours.{all_rows, lent}
 use Rattle.fw_sums.proofs.open_hours.OpenHours.find_each.Given as goal
 

@@ -1,4 +1,4 @@
-use Rattle.fw_sums.specs.Covers.{AreKeptUnder, KeepsMore}
+use Rattle.fw_sums.specs.ReportCache.{AreKeptUnder, KeepsMore}
 use Rattle.fw_sums.specs.Hours.{all_rows, lent}
 use Rattle.fw_sums.proofs.open_hours.OpenHours.keep_all.Given as goal
 

@@ -1,8 +1,8 @@
 use Rattle.std.proofs.Common.{◌≡◌, ◌∙◌, ◌+◌, ◌++◌, ◌∷◌, [], Bool, ℕ, ap, arith, false, get_or, length, map, sym}
 use Rattle.std.proofs.lemmas.List.FromFn.{map-range_with_len_more}
 use Rattle.std.specs.List.{range_with_len}
-use Rattle.fw_sums.specs.Covers.{is_open}
-use Rattle.fw_sums.proofs.covers.HourSums.open_hours.Goals as goal
+use Rattle.fw_sums.specs.ReportCache.{is_open}
+use Rattle.fw_sums.proofs.cache.HourSums.open_hours.Goals as goal
 
 pub loop-place-preserved : goal.loop-place-preserved
 loop-place-preserved c =

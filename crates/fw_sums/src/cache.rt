@@ -3,7 +3,7 @@ ghost use Rattle.std.specs.Prelude.{◌≡◌, ◌⊎◌, ◌<◌, ◌+◌, ◌^
 ghost use Rattle.std.specs.Bool.{OnTrue};
 ghost use Rattle.std.specs.List.{range_with_len};
 ghost use Rattle.fw_charge.specs.Charge.{Charge};
-ghost use Rattle.fw_sums.specs.Covers.{AreFound, AreKept, AreKeptUnder, IsFound, IsKept, KeepsMore, is_open, kept_at};
+ghost use Rattle.fw_sums.specs.ReportCache.{AreFound, AreKept, AreKeptUnder, IsFound, IsKept, KeepsMore, is_open, kept_at};
 ghost use Rattle.fw_sums.specs.Hours.{all_rows, lent};
 ghost use Rattle.fw_terms.specs.Commitment.{CommitmentValue};
 
@@ -25,17 +25,17 @@ pub(crate) const MOST_GROUPS: usize = 262_144;
 ///
 /// Under commitments most of a report's time goes into covering its hours and sharing what they cost, and without them into summing the rows of its
 /// hours by group. What an hour's commitments and a segment's rows bring to the groups of a key is the same for each report until rows or commitments
-/// come. So whoever asks for many reports makes a `Covers` once, lends it to each [`totals_keeping`](crate::totals_keeping), and clears it when an entry
+/// come. So whoever asks for many reports makes a `ReportCache` once, lends it to each [`totals_keeping`](crate::totals_keeping), and clears it when an entry
 /// was accepted. It keeps the sums of the last 8 keys. For each key, and each hour that a commitment has a line in, these are some 120 bytes for each
 /// group that a commitment, or a row that one took of, is in there. From the second report on a key they are so many for each group in each segment of
 /// the rows too: a later report sums the rows of those segments alone that have rows both in and out of its range. Of a key it keeps 262,144 groups of
 /// hours at most, and about as many of segments, each some 31 MB; the hours and segments behind them are counted anew for each report.
-pub struct Covers {
+pub struct ReportCache {
     alloc: Global,
     keys: Vec<KeySums>,
 }
 
-impl Drop for Covers {
+impl Drop for ReportCache {
     fn drop(self) {
         let Self { alloc: _, keys: _ } = self;
     }
@@ -70,21 +70,21 @@ pub(crate) struct HourSums {
     groups: usize,
 }
 
-impl Covers {
+impl ReportCache {
     /// Nothing is kept.
-    #[tactic(auto, unfolding(crate::specs::Covers::AreKept))]
-    pub fn new(alloc: Global) -> Covers
+    #[tactic(auto, unfolding(crate::specs::ReportCache::AreKept))]
+    pub fn new(alloc: Global) -> ReportCache
         ensures none { result.keys.items ≡ [] }
         ensures kept { (cs : List CommitmentValue) (rows : List Charge) → AreKept cs rows result }
     {
-        Covers {
+        ReportCache {
             alloc,
             keys: Vec::new(alloc),
         }
     }
 
     /// Keeps nothing any more.
-    #[tactic(auto, unfolding(crate::specs::Covers::AreKept))]
+    #[tactic(auto, unfolding(crate::specs::ReportCache::AreKept))]
     pub fn clear(&mut self)
         ensures none { self.new.keys.items ≡ [] }
         ensures kept { (cs : List CommitmentValue) (rows : List Charge) → AreKept cs rows self.new }
@@ -95,7 +95,7 @@ impl Covers {
     // Takes out what is kept of a key. Of one that was asked for before, the sums of whole segments that aren't kept yet are found first; of a new key
     // there is nothing.
     pub(crate) fn take(&mut self, key: &str, segments: &[&Columns]) -> Kept
-        ensures covers { (cs : List CommitmentValue) (rows : List Charge) → AreKept cs rows self.old
+        ensures cache { (cs : List CommitmentValue) (rows : List Charge) → AreKept cs rows self.old
             → AreKept cs rows self.new }
         ensures kept { (cs : List CommitmentValue)
             → AreKept cs (all_rows (lent segments.now)) self.old
@@ -111,9 +111,9 @@ impl Covers {
     }
 
     // Takes out what is kept of a key, if it was asked for before.
-    #[tactic(auto, unfolding(crate::specs::Covers::AreKept))]
+    #[tactic(auto, unfolding(crate::specs::ReportCache::AreKept))]
     fn remove(&mut self, key: &str) -> Option<Kept>
-        ensures covers { (cs : List CommitmentValue) (rows : List Charge) → AreKept cs rows self.old
+        ensures cache { (cs : List CommitmentValue) (rows : List Charge) → AreKept cs rows self.old
             → AreKept cs rows self.new }
         ensures kept { (cs : List CommitmentValue) (rows : List Charge) → AreKept cs rows self.old
             → IfSome result (IsKept cs rows key.now) }
@@ -123,7 +123,7 @@ impl Covers {
     }
 
     // Lets go of the key that was asked for longest ago, where there are as many as are kept.
-    #[tactic(auto, unfolding(crate::specs::Covers::AreKept))]
+    #[tactic(auto, unfolding(crate::specs::ReportCache::AreKept))]
     fn make_room(&mut self)
         ensures { (cs : List CommitmentValue) (rows : List Charge) → AreKept cs rows self.old
             → AreKept cs rows self.new }

@@ -1,7 +1,7 @@
 use Rattle.std.proofs.Common.{string_bytes}
-use Rattle.fw_sums.specs.Covers.{AreKept, IsKept}
+use Rattle.fw_sums.specs.ReportCache.{AreKept, IsKept}
 use Rattle.fw_sums.proofs.CoverFacts.{all_removed}
-use Rattle.fw_sums.proofs.covers.Covers.make_room.Goals as goal
+use Rattle.fw_sums.proofs.cache.ReportCache.make_room.Goals as goal
 
 pub returns-then-len-ge-MOST_KEYS : goal.returns-then-len-ge-MOST_KEYS
 unfolding AreKept

@@ -15,10 +15,10 @@ use Rattle.fw_sums.specs.Costs.{costs_of}
 use Rattle.fw_sums.specs.Listed.{AreListed}
 use Rattle.fw_sums.specs.Sums.{Counts}
 use Rattle.fw_sums.specs.Wholes.{AreWholes}
-use Rattle.fw_sums.specs.declared.covers.Covers.{Covers}
-use Rattle.fw_sums.specs.declared.covers.HourSum.{HourSum}
-use Rattle.fw_sums.specs.declared.covers.HourSums.{HourSums}
-use Rattle.fw_sums.specs.declared.covers.Kept.{Kept}
+use Rattle.fw_sums.specs.declared.cache.ReportCache.{ReportCache}
+use Rattle.fw_sums.specs.declared.cache.HourSum.{HourSum}
+use Rattle.fw_sums.specs.declared.cache.HourSums.{HourSums}
+use Rattle.fw_sums.specs.declared.cache.Kept.{Kept}
 use Rattle.fw_sums.specs.declared.groups.Groups.{Groups}
 use Rattle.fw_sums.specs.declared.hours.HourPlace.{HourPlace}
 use Rattle.fw_sums.specs.declared.listed.Listed.{Listed}
@@ -43,8 +43,8 @@ abbrev pub IsKept : List CommitmentValue → List Charge → List ℕ → Kept �
 IsKept cs rows key kept = AreKeptUnder cs rows key kept.hours × AreWholes key rows kept.wholes
 
 -- so of each key
-unfoldable pub AreKept : List CommitmentValue → List Charge → Covers → Type 0
-AreKept cs rows covers = All (λ k. IsKept cs rows (string_bytes k.key) k.kept) covers.keys.items
+unfoldable pub AreKept : List CommitmentValue → List Charge → ReportCache → Type 0
+AreKept cs rows cache = All (λ k. IsKept cs rows (string_bytes k.key) k.kept) cache.keys.items
 
 -- whether an hour is open: a commitment has a line in it, and nothing is kept of it
 abbrev pub is_open : HourSums → Bool → ℕ → Bool

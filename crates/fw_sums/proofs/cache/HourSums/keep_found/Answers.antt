@@ -1,8 +1,8 @@
 use Rattle.std.proofs.Common.{◌∷◌, All, subst, sym}
 use Rattle.std.proofs.lemmas.List.Elements.{All-head, All-tail}
-use Rattle.fw_sums.specs.Covers.{IsFound}
+use Rattle.fw_sums.specs.ReportCache.{IsFound}
 use Rattle.fw_sums.proofs.CoverFacts.{found_kept, found_more}
-use Rattle.fw_sums.proofs.covers.HourSums.keep_found.Goals as goal
+use Rattle.fw_sums.proofs.cache.HourSums.keep_found.Goals as goal
 
 pub loop-one-init : goal.loop-one-init
 loop-one-init c = record {

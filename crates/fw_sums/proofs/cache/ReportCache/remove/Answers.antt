@@ -1,7 +1,7 @@
 use Rattle.std.proofs.Common.{◌≡◌, ◌<◌, rules, length, string_bytes}
-use Rattle.fw_sums.specs.Covers.{AreKept}
+use Rattle.fw_sums.specs.ReportCache.{AreKept}
 use Rattle.fw_sums.proofs.CoverFacts.{kept_of}
-use Rattle.fw_sums.proofs.covers.Covers.remove.Goals as goal
+use Rattle.fw_sums.proofs.cache.ReportCache.remove.Goals as goal
 
 pub returns-clause-kept : goal.returns-clause-kept
 unfolding AreKept

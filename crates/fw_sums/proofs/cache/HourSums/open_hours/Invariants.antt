@@ -1,7 +1,7 @@
 use Rattle.std.proofs.Common.{◌≡◌, ◌+◌, false, get_or, map}
 use Rattle.std.specs.List.{range_with_len}
-use Rattle.fw_sums.specs.Covers.{is_open}
-use Rattle.fw_sums.proofs.covers.HourSums.open_hours.Given as goal
+use Rattle.fw_sums.specs.ReportCache.{is_open}
+use Rattle.fw_sums.proofs.cache.HourSums.open_hours.Given as goal
 
 -- the marks of the hours so far
 abbrev pub invariant-loop-place : goal.invariant-loop-place

@@ -1,7 +1,7 @@
 use Rattle.std.proofs.Common.{◌∷◌, All, subst, sym}
 use Rattle.std.proofs.lemmas.List.Elements.{All-head, All-tail}
-use Rattle.fw_sums.specs.Covers.{AreFound}
-use Rattle.fw_sums.proofs.covers.HourSums.keep_each.Goals as goal
+use Rattle.fw_sums.specs.ReportCache.{AreFound}
+use Rattle.fw_sums.proofs.cache.HourSums.keep_each.Goals as goal
 
 pub loop-found-init : goal.loop-found-init
 loop-found-init c = record {
