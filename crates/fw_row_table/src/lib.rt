@@ -20,6 +20,6 @@ pub use lists::Lists;
 pub use names::Names;
 pub use naming::{see_names, see_tags};
 pub use packed::Packed;
-pub use reading::{category_at, fields_at};
+pub use reading::{amount_at, category_at, fields_at};
 pub use table::Table;
 pub use table_lengths::Lengths;
