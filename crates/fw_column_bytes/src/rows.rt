@@ -117,6 +117,7 @@ fn columns_with(alloc: Global, parts: PartsRead) -> Result<Option<Columns>, Allo
 /// period of a row ends before it starts, where the parts of a discount don't agree (`fw_fields::discount_agrees`), where the keys of the tags don't rise,
 /// where a null quantity has another amount than 0, or where the names aren't each text of the rows once, in the order in which it first occurs.
 /// [`ReadError::NoMemory`] where there is no memory for the rows, reported where it runs out: a later fault isn't looked for.
+#[inline(never)]
 pub fn columns_of(alloc: Global, bytes: &[u8]) -> Result<(Columns, &[u8]), ReadError>
     ensures { Gives (λ x. (x.0, x.1.now)) result (columns_at bytes.now) }
 {
