@@ -9,7 +9,7 @@ Two of the tests on threads (crates/fw_test_threads) time what they do, and prin
     reported::a_report_beside_importers   a report of 65,536 rows at rest, and one while eight importers post
 
 Each of them is run in a process of its own, in turns. Of a turn the test tells the fastest of many batches of views, and the median of its
-reports; what counts here is the median of the turns. `tools/gate.py` leaves the built tests in out/tests. Progress goes to standard error.
+reports; what counts here is the median of the turns. `tools/prove.py` leaves the built tests in out/tests. Progress goes to standard error.
 
 Exit status: 0 measured, 1 a test failed, 2 a wrong command line or a machine on which nothing can be measured.
 """
@@ -107,7 +107,7 @@ def run(options):
     os.makedirs(options.scratch, exist_ok=True)
     program = os.path.abspath(options.program)
     if not (os.access(program, os.X_OK) and os.path.isfile(program)):
-        raise Stopped(f"{options.program} isn't there: build it by tools/gate.py")
+        raise Stopped(f"{options.program} isn't there: build it by tools/prove.py")
     tests = tests_of(program)
     before = load()
     for test in in_turns(tests, options):

@@ -6,7 +6,7 @@ import sys
 import unittest
 
 TOP = os.path.dirname(os.path.dirname(os.path.abspath(__file__)))
-# focusd as tools/gate.py leaves it.
+# focusd as tools/prove.py leaves it.
 PROGRAM = os.path.join(TOP, "out", "focusd")
 
 

@@ -44,7 +44,7 @@ class Records:
 
     def write(self, top):
         with open(os.path.join(top, RECORDS), "w", encoding="utf-8") as file:
-            file.write("# Up to which commit the must-fail edits of each crate are known to be refused. tools/gate.py --help says how this is used.\n")
+            file.write("# Up to which commit the must-fail edits of each crate are known to be refused. tools/prove.py --help says how this is used.\n")
             file.write(f"kit {self.kit}\nlanding {self.landing}\n")
             file.writelines(f"{crate} {commit}\n" for crate, commit in sorted(self.tried.items()))
 

@@ -4,7 +4,7 @@
     tools/refuse_allocations.py                             all of them
     tools/refuse_allocations.py --most 100 fw_test_values   the tests of one crate, and fewer of their allocations
 
-The tests are those that the gate built into out/tests (NAME: a crate, `program` or `fw_simulate`). A test whose allocation
+The tests are those that tools/prove.py built into out/tests (NAME: a crate, `program` or `fw_simulate`). A test whose allocation
 is refused has to end in one of two ways: it passes (it looked at the answer, and at what stands after it), or it ends
 with an error that says that memory ran out: the test answers it, or stops after printing it, in its crate's src/ended.rt.
 An assertion that fails is an answer that changed in place of the error, and so is a crash.
@@ -340,7 +340,7 @@ def main():
     built = sorted(os.listdir(TESTS)) if os.path.isdir(TESTS) else []
     names = options.names or [*(name for name in built if name not in ON_THREADS), "program", "fw_simulate"]
     if not compiler or not built:
-        lacking = "C compiler" if not compiler else "built test in out/tests: run tools/gate.py first"
+        lacking = "C compiler" if not compiler else "built test in out/tests: run tools/prove.py first"
         print(f"tools/refuse_allocations.py: there is no {lacking}", file=sys.stderr)
         return 2
     # A test that is stopped leaves no core.

@@ -18,7 +18,7 @@ def lines_of(name):
 
 
 def scripts_and_answers():
-    """The scripts of events that the gate runs first, each with its answers: those before the first remark."""
+    """The scripts of events that `rt ci` runs first, each with its answers: those before the first remark."""
     script, answers, found = [], lines_of("stdout"), []
     for line in lines_of("stdin"):
         if line.startswith("#"):
@@ -69,7 +69,7 @@ OLD_WITHDRAWN = [
 
 
 def all_scripts_and_answers():
-    """Those that the gate runs first, and those above."""
+    """Those that `rt ci` runs first, and those above."""
     return [*scripts_and_answers(), *(tuple(map(list, zip(*pairs))) for pairs in (ADDED, OLD, WITHDRAWN, OLD_WITHDRAWN))]
 
 

@@ -1,14 +1,14 @@
 #!/usr/bin/env python3
-"""Runs the toolchain's gate, `rt ci`, and tries the must-fail edits that are due, within a budget.
+"""Has `rt ci` prove every crate, and tries the must-fail edits that are due, within a budget.
 
-    tools/gate.py                      proves every crate and its tests, and tries edits for 15 minutes of the processor, by their costs
-    tools/gate.py --budget MINUTES     another budget
-    tools/gate.py --all                tries every edit
-    tools/gate.py --owed               tries every edit that is due, crate by crate, and writes down each crate that is done; it can be stopped and run again
-    tools/gate.py --program            tries none: proves and builds focusd and the crates that it stands on, and no more
-    tools/gate.py --list               says which edits are due, which a run would try, and what stays owed; runs nothing
-    tools/gate.py --landed COMMIT      writes down that the gate of this commit passed and landed
-    tools/gate.py --anew               takes nothing that `rt ci` has passed on this machine: to measure what a run from nothing costs
+    tools/prove.py                      proves every crate and its tests, and tries edits for 15 minutes of the processor, by their costs
+    tools/prove.py --budget MINUTES     another budget
+    tools/prove.py --all                tries every edit
+    tools/prove.py --owed               tries every edit that is due, crate by crate, and writes down each crate that is done; it can be stopped and run again
+    tools/prove.py --program            tries none: proves and builds focusd and the crates that it stands on, and no more
+    tools/prove.py --list               says which edits are due, which a run would try, and what stays owed; runs nothing
+    tools/prove.py --landed COMMIT      writes down that the run of this commit passed and landed
+    tools/prove.py --anew               takes nothing that `rt ci` has passed on this machine: to measure what a run from nothing costs
 
 `rt ci` proves from nothing, but for what it has passed on this machine, of the same files over the same libraries: that it takes as it is, and says so. It
 runs over a copy of the tree without edits. The edits are tried beside it, many of them in one check (tools/edits.py), each crate's once the crate is proved.
@@ -17,7 +17,7 @@ An edit is due once its own text changed, or a file that it turns, layout and im
 known to be refused (tools/edits-tried), or under another logic of the toolchain. First come the edits whose text is new, then the crates with edits that are due, those first whose edits were
 tried longest ago, then the others in the same order, until the budget is spent. What is left over stays due.
 
-It leaves the built programs in out/focusd, out/fw_first_look and out/fw_simulate, the built tests in out/tests/, and all that `rt ci` printed in out/gate.log.
+It leaves the built programs in out/focusd, out/fw_first_look and out/fw_simulate, the built tests in out/tests/, and all that `rt ci` printed in out/proofs.log.
 
 Exit status: 0 where all was proved and passed, and every edit that was tried was refused; 1 otherwise; 2 where nothing could be run.
 """
@@ -56,7 +56,7 @@ ITEM = re.compile(r"(fn|struct|enum|union|impl|trait|type|const|static) \S.*: (p
 BUILT = re.compile(r"rt: (\w+) (proved|is kept: .*)$")
 
 
-class GateError(Exception):
+class ProveError(Exception):
     """Why nothing could be run."""
 
 
@@ -160,7 +160,7 @@ class Tries:
         self.pool.shutdown(wait=False, cancel_futures=True)
 
 
-def run_gate(room, log_path, flags, of_program, number_of_crates, tries):
+def run_proofs(room, log_path, flags, of_program, number_of_crates, tries):
     """Runs `rt ci` in the room, and the edits beside it: the exit status, the steps, minutes by the clock of `rt ci` alone and of all, and processor seconds."""
     began, used = time.monotonic(), processor()
     meter, proved = Meter(), 0
@@ -215,19 +215,19 @@ def head_of(top):
     """The commit that is checked out."""
     head = output_of(["git", "rev-parse", "HEAD"], top)
     if head is None:
-        raise GateError("git names no commit")
+        raise ProveError("git names no commit")
     return head.strip()
 
 
 def landed(top, commit, kit):
-    """Writes down that a commit landed: of the crates whose edits its gate tried, none are due any more."""
+    """Writes down that a commit landed: of the crates whose edits its run tried, none are due any more."""
     commit = (output_of(["git", "rev-parse", f"{commit}^{{commit}}"], top) or "").strip()
     if not commit:
-        raise GateError("there is no such commit")
+        raise ProveError("there is no such commit")
     with tempfile.TemporaryDirectory(prefix="focusd-landed-") as room:
         at = os.path.join(room, "tree")
         if output_of(["git", "worktree", "add", "--detach", at, commit], top) is None:
-            raise GateError(f"git can't check {commit} out")
+            raise ProveError(f"git can't check {commit} out")
         try:
             plan = due.plan(at, kit, BUDGET * 60)
             records = Records.read(at)
@@ -246,7 +246,7 @@ def recorder(top, kit):
     """What writes a crate down as tried up to the commit that is checked out."""
     commit, turn = head_of(top), threading.Lock()
     if output_of(["git", "status", "--porcelain", "--", "crates", "crates.txt"], top):
-        raise GateError("what is tried is written down with a commit: commit what changed in crates/ first")
+        raise ProveError("what is tried is written down with a commit: commit what changed in crates/ first")
 
     def done(crate):
         with turn:
@@ -264,7 +264,7 @@ def main():
     which.add_argument("--all", action="store_true", help="try every must-fail edit")
     which.add_argument("--owed", action="store_true", help="try every edit that is due, and write down each crate that is done")
     which.add_argument("--program", action="store_true", help="prove and build focusd, and try no edit")
-    which.add_argument("--landed", metavar="COMMIT", help="write down that the gate of this commit passed and landed")
+    which.add_argument("--landed", metavar="COMMIT", help="write down that the run of this commit passed and landed")
     parser.add_argument("--list", action="store_true", help="say which edits are due and what would be tried, and run nothing")
     parser.add_argument("--anew", action="store_true", help="prove all anew, to measure it")
     parser.add_argument("--budget", type=float, default=BUDGET, metavar="MINUTES", help=f"minutes of the processor for edits (default: {BUDGET})")
@@ -275,7 +275,7 @@ def main():
     try:
         kit = (output_of(["rt", "version"], top) or "").strip()
         if not kit:
-            raise GateError("the toolchain's command rt isn't there: install it first")
+            raise ProveError("the toolchain's command rt isn't there: install it first")
         if options.landed:
             landed(top, options.landed, kit)
             return 0
@@ -290,8 +290,8 @@ def main():
             return 0
         if options.owed:
             done = recorder(top, kit)
-    except (GateError, DueError, GitError, OSError) as error:
-        print(f"tools/gate.py: {error}", file=sys.stderr)
+    except (ProveError, DueError, GitError, OSError) as error:
+        print(f"tools/prove.py: {error}", file=sys.stderr)
         return 2
     out = os.path.join(top, "out")
     shutil.rmtree(os.path.join(out, "tests"), ignore_errors=True)
@@ -299,13 +299,13 @@ def main():
     for program in PROGRAMS:
         if os.path.exists(os.path.join(out, program)):
             os.remove(os.path.join(out, program))
-    with tempfile.TemporaryDirectory(prefix="focusd-gate-") as room:
+    with tempfile.TemporaryDirectory(prefix="focusd-prove-") as room:
         copy_tree(top, room, crates)
         if options.program:
             with open(os.path.join(room, "crates.txt"), "w", encoding="utf-8") as file:
                 file.writelines(f"{line}\n" for crate, line in lines.items() if crate in crates)
         tries = Tries(top, room, runs, done)
-        status, steps, proofs, wall, spent = run_gate(room, os.path.join(out, "gate.log"), ["--anew"] if options.anew else [], options.program, len(crates), tries)
+        status, steps, proofs, wall, spent = run_proofs(room, os.path.join(out, "proofs.log"), ["--anew"] if options.anew else [], options.program, len(crates), tries)
         keep(room, out)
     if not options.program:
         print("\nWhat each crate cost, in seconds: of the processor, and by the clock (wall)")

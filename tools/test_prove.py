@@ -1,5 +1,5 @@
 #!/usr/bin/env python3
-"""Tests of which must-fail edits are due and tried, and of the gate over a repository of two small crates."""
+"""Tests of which must-fail edits are due and tried, and of a run over a repository of two small crates."""
 import os
 import subprocess
 import sys
@@ -9,14 +9,14 @@ import unittest
 sys.path.insert(0, os.path.dirname(os.path.abspath(__file__)))
 import changes  # noqa: E402
 import due  # noqa: E402
-import gate  # noqa: E402
+import prove  # noqa: E402
 import meter  # noqa: E402
 import refuse_allocations  # noqa: E402
 import rt_ci  # noqa: E402
 from command_line import TOP, run_tests  # noqa: E402
 from crates_txt import below, deps_of, lines_in  # noqa: E402
 
-TOOL = os.path.join(os.path.dirname(os.path.abspath(__file__)), "gate.py")
+TOOL = os.path.join(os.path.dirname(os.path.abspath(__file__)), "prove.py")
 SOURCE = """//! One function.
 #![tactic(auto)]
 
@@ -40,26 +40,26 @@ class Lines(unittest.TestCase):
         self.assertEqual(below("program", deps_of(lines)), {"mid", "low"})
 
     def test_what_only_says_proved_is_not_shown(self):
-        self.assertFalse(gate.is_shown("fn fw_money::read::parse: proved", False))
-        self.assertFalse(gate.is_shown("statements std: modules loaded=254 checked=0", False))
+        self.assertFalse(prove.is_shown("fn fw_money::read::parse: proved", False))
+        self.assertFalse(prove.is_shown("statements std: modules loaded=254 checked=0", False))
         for line in ["fn fw_money::read::parse: not proved", "rt: fw_money proved", "note: src/lib.rt:1:1", "3 passed, 0 failed"]:
-            self.assertTrue(gate.is_shown(line, False), line)
+            self.assertTrue(prove.is_shown(line, False), line)
 
     def test_a_crate_is_built_once_it_is_proved_or_kept(self):
         for line in ["rt: fw_money proved", "rt: fw_money is kept: an earlier run on this machine proved the same files over the same libraries"]:
-            self.assertEqual(gate.BUILT.match(line)[1], "fw_money", line)
+            self.assertEqual(prove.BUILT.match(line)[1], "fw_money", line)
         for line in ["rt: fw_money NOT PROVED", "rt: fw_money: its tests are proved"]:
-            self.assertIsNone(gate.BUILT.match(line), line)
+            self.assertIsNone(prove.BUILT.match(line), line)
 
 
 class Lanes(unittest.TestCase):
     def test_a_proof_has_a_processor_where_it_has_memory(self):
-        most = gate.MOST_MEMORY
+        most = prove.MOST_MEMORY
         for processors, free, lanes in [(4, 5 * most, 4), (4, 4 * most, 4), (4, 4 * most - 1, 3), (2, 9 * most, 2), (8, most, 1), (4, 0, 1)]:
-            self.assertEqual(gate.lanes_of(processors, free), lanes, (processors, free))
+            self.assertEqual(prove.lanes_of(processors, free), lanes, (processors, free))
 
     def test_the_memory_that_is_free_is_read(self):
-        self.assertGreater(gate.free_memory(), 0)
+        self.assertGreater(prove.free_memory(), 0)
 
 
 class Checksums(unittest.TestCase):
@@ -211,7 +211,7 @@ class Changes(unittest.TestCase):
             repository.fill()
             kit = due.Records.read(top).kit
             plan = lambda **how: due.plan(top, kit, **how)
-            self.assertEqual(gate.number(plan(budget=None).due), 0)
+            self.assertEqual(prove.number(plan(budget=None).due), 0)
             repository.write("crates/changed/src/lib.rt", SOURCE + "// a comment\n")
             commit = repository.commit("code of one crate")
             two = {"crates/changed/must-fail/adds_two.edit"}
@@ -219,15 +219,15 @@ class Changes(unittest.TestCase):
             records = due.Records.read(top)
             records.tried["changed"] = commit
             records.write(top)
-            self.assertEqual(gate.number(plan().due), 0)
+            self.assertEqual(prove.number(plan().due), 0)
             three = "crates/same/must-fail/adds_three.edit"
             repository.write(three, REFUSED.replace("+ 2", "+ 3"))
             self.assertEqual((plan().due["same"], plan().new["same"], plan().runs), ({three}, {three}, {"same": {three}}))
             for another in ("another kit", "rattle-kit-1 logic another"):
-                self.assertEqual(gate.number(due.plan(top, another).due), 4, another)
+                self.assertEqual(prove.number(due.plan(top, another).due), 4, another)
             later = f"a later release logic {due.logic_of(kit)}"
-            self.assertEqual(gate.number(due.plan(top, later).due), 1, "it proves in the same logic")
-            self.assertEqual(gate.number(plan(tries_all=True).runs), 4)
+            self.assertEqual(prove.number(due.plan(top, later).due), 1, "it proves in the same logic")
+            self.assertEqual(prove.number(plan(tries_all=True).runs), 4)
             records.tried["same"] = "0" * 40
             records.write(top)
             self.assertEqual(len(plan().due["same"]), 3, "a commit that isn't here")
@@ -257,9 +257,9 @@ class Changes(unittest.TestCase):
             plan = due.plan(top, kit, 2 * one)
             self.assertEqual(plan.owed(), {"same": {"crates/same/must-fail/adds_two.edit", "crates/same/must-fail/adds_the_other_way.edit"}})
             self.assertEqual((plan.done(), plan.oldest(plan.owed()), plan.dates["same"]), (["third", "changed"], "same", "2026-01-02 00:00"))
-            self.assertIn("must-fail edits owed: 2, of 1 crates; the oldest of same, tried up to a commit of 2026-01-02 00:00: same (2)", gate.owed_line(plan))
+            self.assertIn("must-fail edits owed: 2, of 1 crates; the oldest of same, tried up to a commit of 2026-01-02 00:00: same (2)", prove.owed_line(plan))
 
-    def test_a_landing_is_written_down_as_its_gate_ran(self):
+    def test_a_landing_is_written_down_as_its_run_went(self):
         with tempfile.TemporaryDirectory() as top:
             repository = Repository(top)
             repository.fill()
@@ -268,10 +268,10 @@ class Changes(unittest.TestCase):
             landing = repository.commit("it lands")
             repository.write("README.md", "more\n")
             repository.commit("more")
-            gate.landed(top, landing, before.kit)
+            prove.landed(top, landing, before.kit)
             after = due.Records.read(top)
             self.assertEqual((after.landing, after.tried), (landing, {"changed": landing, "same": landing}))
-            self.assertEqual(gate.number(due.plan(top, before.kit).due), 0)
+            self.assertEqual(prove.number(due.plan(top, before.kit).due), 0)
 
 
 # A program that reads its input by threes, and allocates after each; then beside a file that stands in its folder, and then without one.
