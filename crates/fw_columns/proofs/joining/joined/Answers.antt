@@ -1,6 +1,7 @@
-use Rattle.std.proofs.Common.{get_or, ◌≡◌, ◌∙◌, ◌≤◌, ◌<◌, ◌+◌, ◌++◌, ◌∷◌, [], ap, sym, subst, ℕ, List, length, length-append, take, drop, arith}
+use Rattle.std.proofs.Common.{get_or, ◌≡◌, ◌∙◌, ◌≤◌, ◌<◌, ◌+◌, ◌++◌, ◌∷◌, [], ap, sym, subst, ℕ, List, length, length-append, take, arith}
 use Rattle.std.specs.List.{flat_map}
-use Rattle.std.proofs.lemmas.List.{append-nil, take_more, take_all, take-append-drop}
+use Rattle.std.proofs.lemmas.List.{append-nil, take_more, take_all}
+use Rattle.std.proofs.lemmas.List.Folds.{length-flat_map-take}
 use Rattle.std.proofs.lemmas.Grind.{flat_map-append}
 use Rattle.fw_charge.specs.Charge.{Charge}
 use Rattle.fw_row_table.specs.Table.{rows_of, AreColumns}
@@ -15,13 +16,6 @@ loop-part-init c = record { columns = c.empty-table.ensures.columns; some = λ h
 more_parts : {X : Type 0} (f : X → List Charge) (parts : List X) (i : ℕ) (d : X) → i < length parts → flat_map f (take (i + 1) parts) ≡ flat_map f (take i parts) ++ f (get_or parts i d)
 more_parts f parts i d h =
     ap (flat_map f) (take_more parts i d h) ∙ (flat_map-append f (take i parts) (get_or parts i d ∷ []) ∙ ap (λ rows. flat_map f (take i parts) ++ rows) (append-nil (f (get_or parts i d))))
-
--- are not more than those of all
-few_parts : {X : Type 0} (f : X → List Charge) (parts : List X) (i : ℕ) → length (flat_map f (take i parts)) ≤ length (flat_map f parts)
-few_parts f parts i =
-    let all : flat_map f parts ≡ flat_map f (take i parts) ++ flat_map f (drop i parts) = ap (flat_map f) (sym (take-append-drop i parts)) ∙ flat_map-append f (take i parts) (drop i parts) in
-    let size : length (flat_map f parts) ≡ length (flat_map f (take i parts)) + length (flat_map f (drop i parts)) = ap length all ∙ length-append (flat_map f (take i parts)) (flat_map f (drop i parts)) in
-    omega (arith, size)
 
 module _ (c : goal.After-table) where
   -- the rows so far, and those of the part that comes next
@@ -38,9 +32,11 @@ append-requires-clause-first c = columns_shown c.loop-part.table _ c.loop-part.i
 
 pub append-requires-clause-few : goal.append-requires-clause-few
 append-requires-clause-few c =
-    let size : length (rows_of c.loop-part.table) + length (rows_of c.table.result.now) ≡ length (flat_map (λ part. part.now) (take (c.loop-part.part-index + 1) c.args.parts.now)) =
-    sym (length-append (rows_of c.loop-part.table) (rows_of c.table.result.now)) ∙ ap length (next c) in
-    omega (arith, size, few_parts (λ part. part.now) c.args.parts.now (c.loop-part.part-index + 1), c.requires.few)
+    let parts = c.args.parts.now in
+    let i = c.loop-part.part-index in
+    let before : length (rows_of c.loop-part.table) ≡ length (flat_map (λ part. part.now) (take i parts)) = ap length (so_far c) in
+    let here : length (rows_of c.table.result.now) ≡ length (get_or parts i c.part-item.result).now = ap length (c.table.ensures.rows ∙ ap (λ part. part.now) c.part-item.is) in
+    omega (arith, before, here, length-flat_map-take (λ part. part.now) parts i c.part-item.result c.loop-part-test.true, c.requires.few)
 
 pub loop-part-preserved : goal.loop-part-preserved
 loop-part-preserved c =
