@@ -10,13 +10,13 @@ use Rattle.fw_bytes.specs.Spelling.{FitsOptional}
 use Rattle.fw_charge.specs.Charge.{Charge}
 use Rattle.fw_charge.specs.Spelling.{FitsNanos, IsRow}
 use Rattle.fw_money.specs.Amount.{most_nanos}
-use Rattle.fw_row_table.specs.Names.{Text, AreDistinct, AreNames, with_text}
+use Rattle.fw_row_table.specs.Names.{AreDistinct, AreNames}
 use Rattle.fw_row_table.specs.Table.{quantity_kept}
-use Rattle.fw_row_table.specs.Texts.{with_texts, texts_of, names_of}
-use Rattle.fw_row_table.proofs.NameFacts.{stays_distinct}
+use Rattle.fw_row_table.specs.Texts.{texts_of, names_of}
 use Rattle.fw_columns.specs.PartsView.{AreParts, AreInRange}
 use Rattle.fw_columns.specs.PartsView as view
 use Rattle.fw_columns.specs.declared.parts.Parts.{Parts}
+use Rattle.fw_columns.proofs.PartFacts.{distinct_seen}
 use Rattle.fw_column_bytes.specs.Fits.{FitsByte, FitParts}
 use Rattle.fw_column_bytes.specs.Kept.{AreRows}
 use Rattle.fw_column_bytes.specs.PartsView.{parts_view}
@@ -133,11 +133,6 @@ in_range rows h = record {
 pub none_match : (p : Parts) (w : PartsRead) → AreReadIn p w → (r : Option (List Charge)) → (IsNone r ↔ view.HaveNoRows p) → IfNone r (HaveNoRows (parts_view w))
 none_match p w read None exactly = λ rows are has. exactly.0 refl rows (in_range rows are) (parts_match p w rows read has)
 none_match p w read (Some rows) exactly = tt
-
-distinct_seen : (names ts : List Text) → AreDistinct names → AreDistinct (with_texts names ts)
-unfolding with_texts
-distinct_seen names [] h = h
-distinct_seen names (t ∷ ts) h = distinct_seen (with_text names t) ts (stays_distinct names t h)
 
 names_distinct : (rows : List Charge) → AreDistinct (names_of rows)
 unfolding names_of IsDistinct

@@ -4,3 +4,4 @@ pub mod PartsView
 pub mod Fits
 pub mod Kept
 pub mod Rows
+pub mod Spelled

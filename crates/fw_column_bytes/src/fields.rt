@@ -1,15 +1,20 @@
-//! Readers of single columns. Each returns the values and the bytes after them. Memory is taken as each value is read, not for their number.
-ghost use Rattle.std.specs.Prelude.{◌≡◌, ◌≤◌, map, string_bytes};
-ghost use Rattle.fw_bytes.specs.Reading.{Gives, times};
+//! Readers of single columns. Each returns the values and the bytes after them. Memory is taken for a whole column only where all its bytes are there, else as
+//! each value is read.
+ghost use Rattle.std.specs.Prelude.{◌≡◌, ◌<◌, ◌≤◌, ◌^◌, length, map, string_bytes, IfErr, IfOk, OnOk};
+ghost use Rattle.fw_bytes.specs.Reading.{Fails, Gives, times};
 ghost use Rattle.fw_row_table.specs.Table.{most_column_rows};
 ghost use Rattle.fw_fields.specs.Reading.{nanos_at, second_at, tag_text_at};
+ghost use Rattle.fw_column_bytes.specs.Spelled.{AreSpelled, ReadsNext};
 ghost use Rattle.fw_column_bytes.specs.Reading.{byte_at, is_text_code, names_at, place_at, tag_places_at, text_code_at};
 
+use crate::whole::{amounts_in, bytes_in, seconds_in, text_codes_in};
 use fw_bytes::{ReadError, u32_at};
 use fw_charge::{Tags, is_short_text};
 use fw_columns::RowLists;
 use fw_fields::{nanos_of, second_of, tag_text_of};
+use fw_row_table::Packed;
 use std::alloc::Global;
+use std::mem::replace;
 
 /// So many amounts.
 pub fn amounts_after(
@@ -17,6 +22,21 @@ pub fn amounts_after(
     count: u32,
     bytes: &[u8],
 ) -> Result<(Vec<i64>, &[u8]), ReadError>
+    ensures { Gives (λ x. (x.0.items, x.1.now)) result (times nanos_at count bytes.now) }
+{
+    let len = 8 * count as usize;
+    if len <= bytes.len() {
+        let (column, is_right) = amounts_in(alloc, count as usize, bytes)?;
+        if is_right {
+            let (_, rest) = bytes.split_at(len);
+            return Ok((column, rest));
+        }
+    }
+    amounts_to_fault(alloc, count, bytes)
+}
+
+/// The same value by value, to find the first fault.
+fn amounts_to_fault(alloc: Global, count: u32, bytes: &[u8]) -> Result<(Vec<i64>, &[u8]), ReadError>
     ensures { Gives (λ x. (x.0.items, x.1.now)) result (times nanos_at count bytes.now) }
 {
     let mut column = Vec::new(alloc);
@@ -35,6 +55,21 @@ pub fn seconds_after(
     count: u32,
     bytes: &[u8],
 ) -> Result<(Vec<u64>, &[u8]), ReadError>
+    ensures { Gives (λ x. (x.0.items, x.1.now)) result (times second_at count bytes.now) }
+{
+    let len = 8 * count as usize;
+    if len <= bytes.len() {
+        let (column, is_right) = seconds_in(alloc, count as usize, bytes)?;
+        if is_right {
+            let (_, rest) = bytes.split_at(len);
+            return Ok((column, rest));
+        }
+    }
+    seconds_to_fault(alloc, count, bytes)
+}
+
+/// The same value by value, to find the first fault.
+fn seconds_to_fault(alloc: Global, count: u32, bytes: &[u8]) -> Result<(Vec<u64>, &[u8]), ReadError>
     ensures { Gives (λ x. (x.0.items, x.1.now)) result (times second_at count bytes.now) }
 {
     let mut column = Vec::new(alloc);
@@ -70,6 +105,28 @@ pub fn bytes_after(
     ensures { Gives (λ x. (x.0.items, x.1.now)) result
         (times (byte_at least most) count bytes.now) }
 {
+    let len = count as usize;
+    if len <= bytes.len() {
+        let (column, is_right) = bytes_in(alloc, least, most, count as usize, bytes)?;
+        if is_right {
+            let (_, rest) = bytes.split_at(len);
+            return Ok((column, rest));
+        }
+    }
+    bytes_to_fault(alloc, least, most, count, bytes)
+}
+
+/// The same value by value, to find the first fault.
+fn bytes_to_fault(
+    alloc: Global,
+    least: u8,
+    most: u8,
+    count: u32,
+    bytes: &[u8],
+) -> Result<(Vec<u8>, &[u8]), ReadError>
+    ensures { Gives (λ x. (x.0.items, x.1.now)) result
+        (times (byte_at least most) count bytes.now) }
+{
     let mut column = Vec::new(alloc);
     let mut rest = bytes;
     for _ in 0..count {
@@ -82,7 +139,7 @@ pub fn bytes_after(
 
 /// Whether a code is 0 or that of a name of 1 to 256 bytes.
 #[tactic(auto, unfolding(fw_row_table::specs::Table::text_at))]
-fn is_text_code(names: &[String], code: u32) -> bool
+pub fn is_text_code(names: &[String], code: u32) -> bool
     ensures { result ≡ is_text_code (map string_bytes names.now) code }
 {
     match code.checked_sub(1) {
@@ -109,6 +166,27 @@ fn text_code_of<'a>(names: &[String], bytes: &'a [u8]) -> Result<(u32, &'a [u8])
 
 /// So many codes of names of 1 to 256 bytes, or 0.
 pub fn text_codes_after<'a>(
+    alloc: Global,
+    names: &[String],
+    count: u32,
+    bytes: &'a [u8],
+) -> Result<(Vec<u32>, &'a [u8]), ReadError>
+    ensures { Gives (λ x. (x.0.items, x.1.now)) result
+        (times (text_code_at (map string_bytes names.now)) count bytes.now) }
+{
+    let len = 4 * count as usize;
+    if len <= bytes.len() {
+        let (column, is_right) = text_codes_in(alloc, names, count as usize, bytes)?;
+        if is_right {
+            let (_, rest) = bytes.split_at(len);
+            return Ok((column, rest));
+        }
+    }
+    text_codes_to_fault(alloc, names, count, bytes)
+}
+
+/// The same value by value, to find the first fault.
+fn text_codes_to_fault<'a>(
     alloc: Global,
     names: &[String],
     count: u32,
@@ -177,7 +255,43 @@ fn tag_places_into<'a>(
     Ok(rest)
 }
 
-/// The places of the texts of the tags of so many rows, each list of them once.
+/// Adds the list of the next row to those of the rows before it, and answers its code. Where the list that is guessed is spelled next, its bytes aren't
+/// read again. `list` is kept for the places that are read.
+fn row_list_into<'a>(
+    column: &mut RowLists,
+    spelled: &mut Packed<u8>,
+    list: &mut Vec<u32>,
+    names: &[String],
+    guess: u32,
+    bytes: &'a [u8],
+) -> Result<(u32, &'a [u8]), ReadError>
+    requires few { length column.old < 2 ^ 30 }
+    requires spelled { AreSpelled (map string_bytes names.now) column.old spelled.old }
+    ensures read { IfOk result (λ x. ReadsNext (map string_bytes names.now)
+        column.old column.new bytes.now x.1.now) }
+    ensures fault { IfErr result (λ e. Fails e
+        (tag_places_at (map string_bytes names.now) bytes.now)) }
+    ensures spelled { OnOk result
+        (AreSpelled (map string_bytes names.now) column.new spelled.new) }
+{
+    if (guess as usize) < spelled.len() {
+        if let Some(rest) = bytes.strip_prefix(spelled.list(guess as usize)) {
+            column.push_again(guess)?;
+            return Ok((guess, rest));
+        }
+    }
+    let rest = tag_places_into(list, names, bytes)?;
+    let code = column.push(list.as_slice())?;
+    if code as usize == spelled.len() {
+        let (front, _) = bytes.split_at(bytes.len() - rest.len());
+        let before = replace(spelled, Packed::new(*list.allocator()));
+        *spelled = before.with(front)?;
+    }
+    Ok((code, rest))
+}
+
+/// The places of the texts of the tags of so many rows, each list of them once. Rows of one hour mostly come in the order of those of the hour before, so
+/// the list that came behind that of the row before is guessed.
 pub fn row_lists_after<'a>(
     alloc: Global,
     names: &[String],
@@ -189,11 +303,20 @@ pub fn row_lists_after<'a>(
         (times (tag_places_at (map string_bytes names.now)) count bytes.now) }
 {
     let mut column = RowLists::new(alloc);
+    let mut spelled = Packed::new(alloc);
     let mut list = Vec::new(alloc);
+    let mut guess = 0;
     let mut rest = bytes;
     for _ in 0..count {
-        let after = tag_places_into(&mut list, names, rest)?;
-        column.push(list.as_slice())?;
+        let (code, after) = row_list_into(
+            &mut column,
+            &mut spelled,
+            &mut list,
+            names,
+            guess,
+            rest,
+        )?;
+        guess = code.saturating_add(1);
         rest = after;
     }
     Ok((column, rest))

@@ -8,6 +8,7 @@
 mod fields;
 mod reading;
 mod rows;
+mod whole;
 mod writing;
 
 pub use rows::columns_of;

@@ -1,12 +1,13 @@
 -- Columns that were put together elsewhere and were checked are those of rows.
-use Rattle.std.proofs.Common.{◌≡◌, ℕ, zero, suc, ◌+◌, ◌-◌, ◌<◌, ◌≤◌, ℤ, Bool, true, false, List, [], ◌∷◌, ◌++◌, length, get_or, map, take, Option, Some, None, refl, sym, ap, subst, ◌∙◌, arith, append_assoc, length-append, true≢false, ltb}
+use Rattle.std.proofs.Common.{◌≡◌, ℕ, zero, suc, ◌+◌, ◌-◌, ◌<◌, ◌≤◌, ℤ, Bool, true, false, List, [], ◌∷◌, ◌++◌, length, get_or, map, take, Option, Some, None, refl, sym, ap, subst, ◌∙◌, arith, append_assoc, length-append, true≢false, eqb, ltb, ◌≢◌, ◌⊎◌, inl, inr}
 use Rattle.std.specs.Prelude.{◌↔◌, All, slice_get, option_to_list, is_some, pos, negsuc, nat_abs, IfNone, IfSome}
-use Rattle.std.specs.List.{list_any, position_or_len, flat_map, range_with_len}
+use Rattle.std.specs.List.{IsDistinct, list_any, position_or_len, flat_map, range_with_len}
 use Rattle.std.specs.Str.{bytes_eq}
 use Rattle.std.specs.Cmp.Lexicographic.{bytes_decides}
 use Rattle.std.proofs.lemmas.List.{take_more, take_all, get_or-take, length-take-le}
-use Rattle.std.proofs.lemmas.List.Elements.{All-nil, All-cons, All-head, All-tail, All-push}
+use Rattle.std.proofs.lemmas.List.Elements.{All-nil, All-cons, All-head, All-tail, All-push, All-weaker}
 use Rattle.std.proofs.lemmas.Bool.{ltb-true, ltb-false}
+use Rattle.std.proofs.lemmas.Bool.Decides.{eqb_tells}
 use Rattle.std.proofs.lemmas.List.{append-nil}
 use Rattle.std.proofs.lemmas.List.Folds.{flat_map-map}
 use Rattle.std.proofs.lemmas.List.FromFn.{map-range_with_len_more}
@@ -20,8 +21,8 @@ use Rattle.fw_charge.specs.declared.category.Category.TheVariants as category
 use Rattle.fw_row_table.specs.Names.{Text, AreDistinct, place_of, with_text}
 use Rattle.fw_row_table.specs.Texts.{with_texts}
 use Rattle.fw_row_table.specs.Table.{category_at, class_at, kind_at, kind_kept, status_kept, quantity_kept, text_at, text_of, discount_of, quantity_of, tag_of, tags_of}
-use Rattle.fw_columns.specs.Parts.{IsStatusOf, IsShortCode, IsDiscountKept, HaveSeen, AreOutOfTurn, AreNumbered, lists_there}
-use Rattle.fw_row_table.proofs.NameFacts.{at_its_end, is_new, place-kept, place_at, text_at_place}
+use Rattle.fw_columns.specs.Parts.{AreListsSeen, IsStatusOf, IsShortCode, IsDiscountKept, HaveSeen, AreOutOfTurn, AreNumbered, lists_there}
+use Rattle.fw_row_table.proofs.NameFacts.{at_its_end, is_new, place-kept, place_at, stays_distinct, text_at_place}
 use Rattle.fw_row_table.proofs.TextFacts.{IsKnown, AreKnown, AreKnown-seen, known_adds_nothing, with_texts-append, with_texts-grows}
 use Rattle.fw_row_table.proofs.ListFacts.{listed_more}
 
@@ -279,6 +280,48 @@ out_in_turn names a b c d e id unit sku account tags one two three four (Some no
 out_in_turn names a b c d e id unit sku account tags one two three four None h =
     out_behind names a b id _ one (out_behind names b c unit _ two (out_behind names c d sku _ three (out_behind names d e account tags four h)))
 
+pub one_more_place : (P : ℕ → Type 0) (n : ℕ) → ((i : ℕ) → i < n → P i) → P n → (i : ℕ) → i < n + 1 → P i
+one_more_place P n before here i lt = by (ltb i n) refl
+  where
+    by : (b : Bool) → ltb i n ≡ b → P i
+    by true e = before i (ltb-true i n e)
+    by false e = let le : n ≤ i = ltb-false i n e in let same : n ≡ i = omega (arith, le, lt) in subst P same here
+
+-- texts that were seen already
+pub seen_already : (names : List Text) (seen : ℕ) → seen ≤ length names → (places : List ℕ) → All (λ place. place < seen) places → HaveSeen names seen seen (map (text_at names) places)
+seen_already names seen few [] within = seen_none names seen few
+seen_already names seen few (place ∷ places) within =
+    let Within : ℕ → Type 0 = λ k. k < seen in
+    let here = seen_again names seen place few (All-head Within place places within) in
+    seen_then names seen seen seen (text_at names place ∷ []) (map (text_at names) places) here (seen_already names seen few places (All-tail Within place places within))
+
+-- lists whose texts are among the first names, once more names are seen, and once one more list is
+pub lists_stay : (lists : List (List ℕ)) (count seen now : ℕ) → seen ≤ now → AreListsSeen lists count seen → AreListsSeen lists count now
+lists_stay lists count seen now le are = record {
+  few = are.few;
+  each = λ k lt. All-weaker (λ place. place < seen) (λ place. place < now) (λ place below. omega (arith, below, le)) (get_or lists k []) (are.each k lt);
+}
+
+pub no_lists : (lists : List (List ℕ)) (seen : ℕ) → AreListsSeen lists 0 seen
+no_lists lists seen = record { few = omega arith; each = λ k lt. absurd (omega (arith, lt)) }
+
+pub fewer_lists : (lists : List (List ℕ)) (count fewer seen : ℕ) → fewer ≤ count → AreListsSeen lists count seen → AreListsSeen lists fewer seen
+fewer_lists lists count fewer seen le are = record { few = omega (arith, le, are.few); each = λ k lt. are.each k (omega (arith, lt, le)) }
+
+pub one_more_list : (lists : List (List ℕ)) (count seen : ℕ) → AreListsSeen lists count seen → count < length lists → All (λ place. place < seen) (get_or lists count []) → AreListsSeen lists (count + 1) seen
+one_more_list lists count seen are lt here =
+    record { few = omega (arith, lt); each = one_more_place (λ k. All (λ place. place < seen) (get_or lists k [])) count are.each here }
+
+pub lists_after : (lists : List (List ℕ)) (count now code more : ℕ) → AreListsSeen lists count now → code < length lists → All (λ place. place < now) (get_or lists code []) → more ≤ count + 1 → (code ≢ count → more ≤ count)
+    → AreListsSeen lists more now
+lists_after lists count now code more are lt here few same = by (eqb_tells code count)
+  where
+    by : ((eqb code count ≡ true) × (code ≡ count)) ⊎ ((eqb code count ≡ false) × (code ≢ count)) → AreListsSeen lists more now
+    by (inl e) =
+        let here_is : All (λ place. place < now) (get_or lists count []) = subst (λ k. All (λ place. place < now) (get_or lists k [])) e.1 here in
+        fewer_lists lists (count + 1) more now few (one_more_list lists count now are (omega (arith, lt, e.1)) here_is)
+    by (inr e) = fewer_lists lists count more now (same e.1) are
+
 -- ---- tags
 
 pub tags_sized : (names : List Text) → All (λ t. length t ≤ longest_tag_text) names → (list : List ℕ) → All (λ place. place < length names) list → All IsTagSized (tags_of names list)
@@ -293,13 +336,6 @@ tags_sized names sized (key ∷ value ∷ places) within =
     (tags_sized names sized places (All-tail Within value places behind))
 
 -- ---- rows up to a place
-
-pub one_more_place : (P : ℕ → Type 0) (n : ℕ) → ((i : ℕ) → i < n → P i) → P n → (i : ℕ) → i < n + 1 → P i
-one_more_place P n before here i lt = by (ltb i n) refl
-  where
-    by : (b : Bool) → ltb i n ≡ b → P i
-    by true e = before i (ltb-true i n e)
-    by false e = let le : n ≤ i = ltb-false i n e in let same : n ≡ i = omega (arith, le, lt) in subst P same here
 
 pub texts_more : (f : ℕ → List Text) (n : ℕ) → flat_map f (range_with_len 0 (n + 1)) ≡ flat_map f (range_with_len 0 n) ++ f n
 texts_more f n =
@@ -347,3 +383,19 @@ pub numbered_more : (lists now : List (List ℕ)) (codes more : List ℕ) (xs : 
 numbered_more lists now codes more xs list h is pushed =
     let listed = listed_more [] lists codes xs (record { seen = h.seen; places = h.places }) now list (place_of now list) more is refl pushed in
     record { seen = listed.seen; places = listed.places }
+
+-- texts that are seen in turn stay distinct
+pub distinct_seen : (names ts : List Text) → AreDistinct names → AreDistinct (with_texts names ts)
+unfolding with_texts
+distinct_seen names [] h = h
+distinct_seen names (t ∷ ts) h = distinct_seen (with_text names t) ts (stays_distinct names t h)
+
+-- the list of a code, for one more row
+pub numbered_again : (lists : List (List ℕ)) (codes more : List ℕ) (xs : List (List ℕ)) (code : ℕ) → AreNumbered lists codes xs → code < length lists → more ≡ codes ++ code ∷ []
+    → AreNumbered lists more (xs ++ get_or lists code [] ∷ [])
+unfolding IsDistinct
+numbered_again lists codes more xs code h lt pushed =
+    let list = get_or lists code [] in
+    let distinct : AreDistinct lists = subst AreDistinct (sym h.seen) (distinct_seen [] xs tt) in
+    let is : lists ≡ with_text lists list = sym (known_adds_nothing lists list (there lists code lt)) in
+    numbered_more lists lists codes more xs list h is (pushed ∙ ap (λ k. codes ++ k ∷ []) (sym (place_at lists code [] distinct lt)))

@@ -95,6 +95,11 @@ pub record HaveSeen (names : List Text) (before now : ℕ) (texts : List Text) :
   pub seen : take now names ≡ with_texts (take before names) texts
   pub few : now ≤ length names
 
+-- the texts of the first lists of places are among the first names
+pub record AreListsSeen (lists : List (List ℕ)) (count seen : ℕ) : Type 0 where
+  pub few : count ≤ length lists
+  pub each : (k : ℕ) → k < count → All (λ place. place < seen) (slice_index_or lists k [])
+
 -- texts that can't be seen next: the names aren't those so far and then those of these texts, whatever texts follow
 pub record AreOutOfTurn (names : List Text) (before : ℕ) (texts : List Text) : Type 0 where
   pub others : (more : List Text) → ¬ (names ≡ with_texts (take before names) (texts ++ more))

@@ -1,11 +1,11 @@
 //! Whether columns that were put together elsewhere are those of rows.
-ghost use Rattle.std.specs.Prelude.{◌≡◌, ◌<◌, ◌≤◌, ◌↔◌, [], ◌∷◌, List, length, map, pos, nat_abs, option_to_list, slice_index_or, All, IfNone, IfSome, IsTrue};
+ghost use Rattle.std.specs.Prelude.{◌≡◌, ◌≢◌, ◌+◌, ◌<◌, ◌≤◌, ◌↔◌, [], ◌∷◌, List, length, map, pos, nat_abs, option_to_list, slice_index_or, All, IfNone, IfSome, IsTrue};
 ghost use Rattle.fw_charge.specs.Charge.{Charge};
 ghost use Rattle.fw_charge.specs.Codes.{category_code, class_code};
 ghost use Rattle.fw_charge.specs.Tags.{longest_tag_text};
 ghost use Rattle.fw_money.specs.Amount.{most_nanos};
-ghost use Rattle.fw_columns.specs.Parts.{AreNumbered, AreOutOfTurn, lists_there, HaveLength, HaveRows, HaveSeen, HaveShortCodes, HasValues, IsDiscountKept, IsPeriod, IsQuantityKept, IsShortCode, IsStatusOf, IsTagList, texts_there};
-ghost use Rattle.fw_row_table.specs.Table.{AreColumns, rows_of, category_at, class_at, text_at, text_of, tags_of};
+ghost use Rattle.fw_columns.specs.Parts.{AreListsSeen, AreNumbered, AreOutOfTurn, lists_there, HaveLength, HaveRows, HaveSeen, HaveShortCodes, HasValues, IsDiscountKept, IsPeriod, IsQuantityKept, IsShortCode, IsStatusOf, IsTagList, texts_there};
+ghost use Rattle.fw_row_table.specs.Table.{AreColumns, rows_of, category_at, class_at, list_at, text_at, text_of, tags_of};
 ghost use Rattle.fw_bytes.specs.Order.{rise};
 
 use crate::columns::Columns;
@@ -289,6 +289,8 @@ fn see_place(names: &Names, seen: u32, place: u32) -> Option<u32>
     ensures some { IfSome result (λ now.
         HaveSeen names.now seen now (text_at names.now place ∷ [])) }
     ensures none { IfNone result (AreOutOfTurn names.now seen (text_at names.now place ∷ [])) }
+    ensures grows { IfSome result (λ now. seen ≤ now) }
+    ensures within { IfSome result (λ now. place < now) }
 {
     prove!(names.len() <= 1 << 30);
     if place < seen {
@@ -308,6 +310,7 @@ fn see_code(names: &Names, seen: u32, code: u32) -> Option<u32>
         HaveSeen names.now seen now (option_to_list (text_of names.now code))) }
     ensures none { IfNone result
         (AreOutOfTurn names.now seen (option_to_list (text_of names.now code))) }
+    ensures grows { IfSome result (λ now. seen ≤ now) }
 {
     match code.checked_sub(1) {
         None => Some(seen),
@@ -322,6 +325,8 @@ fn see_list(names: &Names, seen: u32, list: &[u32]) -> Option<u32>
     ensures some { IfSome result (λ now.
         HaveSeen names.now seen now (map (text_at names.now) list.now)) }
     ensures none { IfNone result (AreOutOfTurn names.now seen (map (text_at names.now) list.now)) }
+    ensures grows { IfSome result (λ now. seen ≤ now) }
+    ensures within { IfSome result (λ now. All (λ place. place < now) list.now) }
 {
     let mut now = seen;
     for place in list {
@@ -333,24 +338,59 @@ fn see_list(names: &Names, seen: u32, list: &[u32]) -> Option<u32>
     Some(now)
 }
 
-/// The same of the texts of a row in turn.
-fn see_row(table: &Table, seen: u32, place: usize) -> Option<u32>
+/// The same of the texts of the list of tags with a code. Those of the first lists are seen already.
+fn see_tags(table: &Table, seen: u32, lists_seen: u32, code: u32) -> Option<u32>
+    requires seen { seen ≤ length table.now.names }
+    requires lists { All (IsTagList table.now.names) table.now.lists }
+    requires code { code < length table.now.lists }
+    requires before { AreListsSeen table.now.lists lists_seen seen }
+    ensures some { IfSome result (λ now. HaveSeen table.now.names seen now
+        (map (text_at table.now.names) (slice_index_or table.now.lists code []))) }
+    ensures none { IfNone result (AreOutOfTurn table.now.names seen
+        (map (text_at table.now.names) (slice_index_or table.now.lists code []))) }
+    ensures grows { IfSome result (λ now. seen ≤ now) }
+    ensures within { IfSome result (λ now.
+        All (λ place. place < now) (slice_index_or table.now.lists code [])) }
+{
+    if code < lists_seen {
+        return Some(seen);
+    }
+    see_list(&table.names, seen, table.lists.list(code))
+}
+
+/// The same of the texts of a row in turn. Those of the first lists of tags are seen already.
+fn see_row(table: &Table, seen: u32, lists_seen: u32, place: usize) -> Option<u32>
     requires all { HaveLength table.now (length table.now.billed.items) }
     requires within { place < length table.now.billed.items }
     requires seen { seen ≤ length table.now.names }
     requires values { HasValues table.now place }
     requires lists { All (IsTagList table.now.names) table.now.lists }
     requires list { slice_index_or table.now.tags.items place 0 < length table.now.lists }
+    requires before { AreListsSeen table.now.lists lists_seen seen }
     ensures some { IfSome result (λ now.
         HaveSeen table.now.names seen now (texts_there table.now place)) }
     ensures none { IfNone result (AreOutOfTurn table.now.names seen (texts_there table.now place)) }
+    ensures grows { IfSome result (λ now. seen ≤ now) }
+    ensures list { IfSome result (λ now. All (λ text. text < now) (list_at table.now place)) }
 {
     let names = &table.names;
     let seen = see_code(names, seen, table.discounts[place])?;
     let seen = see_code(names, seen, table.units[place])?;
     let seen = see_code(names, seen, table.skus[place])?;
     let seen = see_code(names, seen, table.sub_accounts[place])?;
-    see_list(names, seen, table.lists.list(table.tags[place]))
+    see_tags(table, seen, lists_seen, table.tags[place])
+}
+
+/// How many of the first lists are seen once the one with a code is.
+fn lists_after(lists_seen: u32, code: u32) -> u32
+    ensures few { result ≤ lists_seen + 1 }
+    ensures same { code ≢ lists_seen → result ≤ lists_seen }
+{
+    if code == lists_seen {
+        lists_seen.saturating_add(1)
+    } else {
+        lists_seen
+    }
 }
 
 /// Whether columns are those of rows, whose names are numbered as their texts are first seen.
@@ -361,14 +401,16 @@ fn have_rows(table: &Table) -> bool
     ensures { IsTrue result ↔ HaveRows table.now (length table.now.billed.items) }
 {
     let mut seen = 0;
+    let mut lists_seen = 0;
     for place in 0..table.billed.len() {
         if !has_values(table, place) {
             return false;
         }
-        match see_row(table, seen, place) {
+        match see_row(table, seen, lists_seen, place) {
             Some(now) => seen = now,
             None => return false,
         }
+        lists_seen = lists_after(lists_seen, table.tags[place]);
     }
     seen as usize == table.names.len()
 }

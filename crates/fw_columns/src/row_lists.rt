@@ -1,6 +1,7 @@
 //! The lists of places of rows.
-ghost use Rattle.std.specs.Prelude.{◌≡◌, ◌<◌, ◌≤◌, ◌+◌, ◌^◌, ◌++◌, [], ◌∷◌, length, OnOk};
+ghost use Rattle.std.specs.Prelude.{◌≡◌, ◌<◌, ◌≤◌, ◌+◌, ◌^◌, ◌++◌, [], ◌∷◌, Some, length, slice_get, slice_index_or, IfOk, OnOk};
 ghost use Rattle.fw_row_table.specs.Names.{place_of, with_text};
+ghost use Rattle.fw_row_table.specs.Texts.{with_texts};
 ghost use Rattle.fw_columns.specs.Parts.{AreNumbered, lists_there};
 
 use fw_row_table::Lists;
@@ -38,19 +39,31 @@ impl RowLists {
         }
     }
 
-    /// Adds the list of one more row. It is copied where no row has it yet. Where memory is refused, no lists are left.
-    pub fn push(&mut self, list: &[u32]) -> Result<(), AllocError>
+    /// Adds the list of one more row, and returns its code. It is copied where no row has it yet. Where memory is refused, no lists are left.
+    pub fn push(&mut self, list: &[u32]) -> Result<u32, AllocError>
         requires { length self.old < 2 ^ 30 }
-        ensures { OnOk result (self.new ≡ self.old ++ list.now ∷ []) }
+        ensures rows { OnOk result (self.new ≡ self.old ++ list.now ∷ []) }
+        ensures code { IfOk result (λ code. slice_get (with_texts [] self.new) code
+            ≡ Some list.now) }
     {
         match add_list(&mut self.lists, &mut self.places, list) {
-            Ok(()) => Ok(()),
+            Ok(code) => Ok(code),
             Err(refused) => {
                 self.lists = Lists::new(*self.places.allocator());
                 self.places.clear();
                 Err(refused)
             }
         }
+    }
+
+    /// Adds the list of one more row, which an earlier row has too: the one with this code. Where memory is refused, the lists stay as they are.
+    pub fn push_again(&mut self, code: u32) -> Result<(), AllocError>
+        requires { code < length (with_texts [] self.old) }
+        ensures { OnOk result (self.new ≡ self.old
+            ++ slice_index_or (with_texts [] self.old) code [] ∷ []) }
+    {
+        self.places.push(code)?;
+        Ok(())
     }
 
     /// The lists, each once, and for each row the place of its list.
@@ -63,15 +76,16 @@ impl RowLists {
     }
 }
 
-/// Adds the place of a list, which is copied where it is new.
-fn add_list(lists: &mut Lists, places: &mut Vec<u32>, list: &[u32]) -> Result<(), AllocError>
+/// Adds the place of a list, which is copied where it is new, and returns it.
+fn add_list(lists: &mut Lists, places: &mut Vec<u32>, list: &[u32]) -> Result<u32, AllocError>
     requires { length lists.old < 2 ^ 30 }
     ensures lists { OnOk result (lists.new ≡ with_text lists.old list.now) }
     ensures places { OnOk result (places.new.items
         ≡ places.old.items ++ place_of lists.new list.now ∷ []) }
     ensures few { OnOk result (length lists.new ≤ length lists.old + 1) }
+    ensures place { IfOk result (λ place. place ≡ place_of lists.new list.now) }
 {
     let place = lists.code(list)?;
     places.push(place)?;
-    Ok(())
+    Ok(place)
 }

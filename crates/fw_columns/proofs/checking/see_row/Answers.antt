@@ -1,12 +1,11 @@
-use Rattle.std.proofs.Common.{◌≡◌, ◌<◌, ◌++◌, ℕ, List, [], length, get_or, map, subst, sym, ap, ◌∙◌, arith}
+use Rattle.std.proofs.Common.{◌≡◌, ◌<◌, ◌≤◌, ◌++◌, ℕ, List, [], length, get_or, map, subst, ap, arith}
 use Rattle.std.specs.Prelude.{All, IfNone, IfSome, option_to_list}
 use Rattle.std.proofs.lemmas.List.{get_or_read}
-use Rattle.std.proofs.lemmas.Option.{get_or_from_slice_get, slice_get_within}
 use Rattle.fw_row_table.specs.Names.{Text}
 use Rattle.fw_row_table.specs.Table.{text_at, text_of, list_at}
 use Rattle.fw_row_table.specs.declared.table.Table.{Table}
 use Rattle.fw_columns.specs.Parts.{AreOutOfTurn, HaveSeen, texts_there}
-use Rattle.fw_columns.proofs.PartFacts.{out_behind, out_in_turn, out_more, seen_in_turn}
+use Rattle.fw_columns.proofs.PartFacts.{lists_stay, out_behind, out_in_turn, out_more, seen_in_turn}
 use Rattle.fw_columns.proofs.checking.see_row.Goals as goal
 
 -- the text of the code at the place of a row, if it has one
@@ -54,12 +53,6 @@ module _ (t : Table) (i a : ℕ) where
   out_account b c d one two three out =
       out_behind t.names a b id (unit ++ (sku ++ (account ++ tags))) one
       (out_behind t.names b c unit (sku ++ (account ++ tags)) two (out_behind t.names c d sku (account ++ tags) three (out_more t.names d account tags out)))
-
-pub see_list-requires-clause-list : goal.see_list-requires-clause-list
-see_list-requires-clause-list c =
-    let t = c.args.table.now in
-    let place = c.index-5.result.now in
-    subst (All (λ k. k < length t.names)) (get_or_from_slice_get t.lists place _ [] c.list.ensures) (c.requires.lists place [] (slice_get_within t.lists place _ c.list.ensures)).within
 
 pub returns-in_err-seen-clause-none : goal.returns-in_err-seen-clause-none
 returns-in_err-seen-clause-none c =
@@ -114,11 +107,10 @@ returns-clause-some c =
     let two = at_row t (HaveSeen t.names c.in_ok-seen.seen c.in_ok-seen-2.seen) t.units.items i _ within all.units c.index-2.ensures c.in_ok-seen-2.ensures.some in
     let three = at_row t (HaveSeen t.names c.in_ok-seen-2.seen c.in_ok-seen-3.seen) t.skus.items i _ within all.skus c.index-3.ensures c.in_ok-seen-3.ensures.some in
     let four = at_row t (HaveSeen t.names c.in_ok-seen-3.seen c.in_ok-seen-4.seen) t.sub_accounts.items i _ within all.sub_accounts c.index-4.ensures c.in_ok-seen-4.ensures.some in
-    let list : c.list.result.now ≡ list_at t i =
-    sym (get_or_from_slice_get t.lists _ _ [] c.list.ensures) ∙ ap (λ place. get_or t.lists place []) (get_or_read t.tags.items i _ (omega (arith, all.tags, within)) c.index-5.ensures 0) in
-    let five : IfSome c.see_list.result (λ now. HaveSeen t.names c.in_ok-seen-4.seen now (map (text_at t.names) (list_at t i))) =
-    subst (λ (xs : List ℕ). IfSome c.see_list.result (λ now. HaveSeen t.names c.in_ok-seen-4.seen now (map (text_at t.names) xs))) list c.see_list.ensures.some in
-    seen_in_turn t.names c.args.seen c.in_ok-seen.seen c.in_ok-seen-2.seen c.in_ok-seen-3.seen c.in_ok-seen-4.seen _ _ _ _ _ one two three four c.see_list.result five
+    let list : get_or t.lists c.index-5.result.now [] ≡ list_at t i = ap (λ place. get_or t.lists place []) (get_or_read t.tags.items i _ (omega (arith, all.tags, within)) c.index-5.ensures 0) in
+    let five : IfSome c.see_tags.result (λ now. HaveSeen t.names c.in_ok-seen-4.seen now (map (text_at t.names) (list_at t i))) =
+    subst (λ (xs : List ℕ). IfSome c.see_tags.result (λ now. HaveSeen t.names c.in_ok-seen-4.seen now (map (text_at t.names) xs))) list c.see_tags.ensures.some in
+    seen_in_turn t.names c.args.seen c.in_ok-seen.seen c.in_ok-seen-2.seen c.in_ok-seen-3.seen c.in_ok-seen-4.seen _ _ _ _ _ one two three four c.see_tags.result five
 
 pub returns-clause-none : goal.returns-clause-none
 unfolding texts_there list_at
@@ -131,8 +123,20 @@ returns-clause-none c =
     let two = at_row t (HaveSeen t.names c.in_ok-seen.seen c.in_ok-seen-2.seen) t.units.items i _ within all.units c.index-2.ensures c.in_ok-seen-2.ensures.some in
     let three = at_row t (HaveSeen t.names c.in_ok-seen-2.seen c.in_ok-seen-3.seen) t.skus.items i _ within all.skus c.index-3.ensures c.in_ok-seen-3.ensures.some in
     let four = at_row t (HaveSeen t.names c.in_ok-seen-3.seen c.in_ok-seen-4.seen) t.sub_accounts.items i _ within all.sub_accounts c.index-4.ensures c.in_ok-seen-4.ensures.some in
-    let list : c.list.result.now ≡ list_at t i =
-    sym (get_or_from_slice_get t.lists _ _ [] c.list.ensures) ∙ ap (λ place. get_or t.lists place []) (get_or_read t.tags.items i _ (omega (arith, all.tags, within)) c.index-5.ensures 0) in
-    let five : IfNone c.see_list.result (AreOutOfTurn t.names c.in_ok-seen-4.seen (map (text_at t.names) (list_at t i))) =
-    subst (λ (xs : List ℕ). IfNone c.see_list.result (AreOutOfTurn t.names c.in_ok-seen-4.seen (map (text_at t.names) xs))) list c.see_list.ensures.none in
-    out_in_turn t.names c.args.seen c.in_ok-seen.seen c.in_ok-seen-2.seen c.in_ok-seen-3.seen c.in_ok-seen-4.seen _ _ _ _ _ one two three four c.see_list.result five
+    let list : get_or t.lists c.index-5.result.now [] ≡ list_at t i = ap (λ place. get_or t.lists place []) (get_or_read t.tags.items i _ (omega (arith, all.tags, within)) c.index-5.ensures 0) in
+    let five : IfNone c.see_tags.result (AreOutOfTurn t.names c.in_ok-seen-4.seen (map (text_at t.names) (list_at t i))) =
+    subst (λ (xs : List ℕ). IfNone c.see_tags.result (AreOutOfTurn t.names c.in_ok-seen-4.seen (map (text_at t.names) xs))) list c.see_tags.ensures.none in
+    out_in_turn t.names c.args.seen c.in_ok-seen.seen c.in_ok-seen-2.seen c.in_ok-seen-3.seen c.in_ok-seen-4.seen _ _ _ _ _ one two three four c.see_tags.result five
+
+pub see_tags-requires-clause-before : goal.see_tags-requires-clause-before
+see_tags-requires-clause-before c =
+    let grows : c.args.seen ≤ c.in_ok-seen-4.seen = omega (arith, c.in_ok-seen.ensures.grows, c.in_ok-seen-2.ensures.grows, c.in_ok-seen-3.ensures.grows, c.in_ok-seen-4.ensures.grows) in
+    lists_stay c.args.table.now.lists c.args.lists_seen c.args.seen c.in_ok-seen-4.seen grows c.requires.before
+
+pub returns-clause-list : goal.returns-clause-list
+unfolding list_at
+returns-clause-list c =
+    let t = c.args.table.now in
+    let list : get_or t.lists c.index-5.result.now [] ≡ list_at t c.args.place =
+    ap (λ place. get_or t.lists place []) (get_or_read t.tags.items c.args.place _ (omega (arith, c.requires.all.tags, c.requires.within)) c.index-5.ensures 0) in
+    subst (λ (xs : List ℕ). IfSome c.see_tags.result (λ now. All (λ text. text < now) xs)) list c.see_tags.ensures.within

@@ -1,4 +1,4 @@
-use Rattle.std.proofs.Common.{get_or, ◌≡◌, ◌∙◌, ◌≤◌, ◌<◌, ◌+◌, ◌++◌, ◌∷◌, [], ap, sym, subst, ℕ, List, length, length-append, take, arith}
+use Rattle.std.proofs.Common.{get_or, ◌≡◌, ◌∙◌, ◌<◌, ◌+◌, ◌++◌, ◌∷◌, [], ap, sym, subst, ℕ, List, length, length-append, take, arith}
 use Rattle.std.specs.List.{flat_map}
 use Rattle.std.proofs.lemmas.List.{append-nil, take_more, take_all}
 use Rattle.std.proofs.lemmas.List.Folds.{length-flat_map-take}

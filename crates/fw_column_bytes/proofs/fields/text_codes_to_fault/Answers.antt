@@ -3,7 +3,7 @@ use Rattle.std.specs.Prelude.{map, string_bytes}
 use Rattle.fw_bytes.specs.Reading.{times}
 use Rattle.fw_bytes.proofs.Loop.{goes_on, ends, is_done}
 use Rattle.fw_column_bytes.specs.Reading.{text_code_at}
-use Rattle.fw_column_bytes.proofs.fields.text_codes_after.Goals as goal
+use Rattle.fw_column_bytes.proofs.fields.text_codes_to_fault.Goals as goal
 
 pub returns-in_err-value : goal.returns-in_err-value
 returns-in_err-value c =

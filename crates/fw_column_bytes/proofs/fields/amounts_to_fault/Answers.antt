@@ -6,7 +6,7 @@ use Rattle.std.proofs.lemmas.Result.{err_from_is_err_and}
 use Rattle.fw_bytes.specs.Reading.{times}
 use Rattle.fw_bytes.proofs.Loop.{goes_on, ends, is_done}
 use Rattle.fw_fields.specs.Reading.{nanos_at}
-use Rattle.fw_column_bytes.proofs.fields.amounts_after.Goals as goal
+use Rattle.fw_column_bytes.proofs.fields.amounts_to_fault.Goals as goal
 
 pub returns-in_err-value : goal.returns-in_err-value
 returns-in_err-value c =

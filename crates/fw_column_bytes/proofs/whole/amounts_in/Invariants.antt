@@ -1,0 +1,6 @@
+use Rattle.fw_fields.specs.Reading.{nanos_at}
+use Rattle.fw_column_bytes.proofs.WholeFacts.{AreRight}
+use Rattle.fw_column_bytes.proofs.whole.amounts_in.Given as goal
+
+abbrev pub invariant-loop-place : goal.invariant-loop-place
+invariant-loop-place l = AreRight nanos_at 8 l.column.items l.is_right l.place l.count l.bytes
