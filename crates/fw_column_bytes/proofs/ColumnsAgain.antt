@@ -24,16 +24,17 @@ use Rattle.fw_charge.specs.declared.discount.DiscountStatus.TheVariants as statu
 use Rattle.fw_charge.proofs.CodeFacts.{category_there, category_within, class_there, kind_there, status_there}
 use Rattle.fw_row_table.specs.Codes.{text_code}
 use Rattle.fw_row_table.specs.Lists.{tag_places, lists_of}
-use Rattle.fw_row_table.specs.Names.{Text, place_of, with_text}
+use Rattle.fw_row_table.specs.Names.{Text, place_of}
 use Rattle.fw_row_table.specs.Table.{id_kept, kind_kept, status_kept, quantity_kept, category_at, class_at, text_at, text_of, quantity_of, tags_of, most_column_rows}
-use Rattle.fw_row_table.specs.Texts.{with_texts, texts_of_tags, texts_of, names_of}
+use Rattle.fw_row_table.specs.Texts.{texts_of_tags, texts_of, names_of}
 use Rattle.fw_row_table.proofs.NameFacts.{text_at_place}
-use Rattle.fw_row_table.proofs.TextFacts.{IsKnown, AreKnown, IsRowKnown, rows-known, with_text_adds_one}
+use Rattle.fw_row_table.proofs.TextFacts.{IsKnown, AreKnown, IsRowKnown, rows-known}
 use Rattle.fw_row_table.proofs.ListFacts.{with_texts-all}
 use Rattle.fw_row_table.proofs.TableFacts.{text-back, tags-back}
 use Rattle.fw_fields.specs.Row.{fields_agree, row_from}
 use Rattle.fw_fields.proofs.RowFacts.{parts_of, parts_agree, tags_rise}
 use Rattle.fw_fields.proofs.RowOfFields.{row_to, row_from-to}
+use Rattle.fw_columns.proofs.PartColumns.{names_few as few_names}
 use Rattle.fw_column_bytes.specs.Rows.{fields_of_rows, AreColumnsOf, HaveNoRows}
 use Rattle.fw_column_bytes.specs.Kept.{AreRows}
 use Rattle.fw_column_bytes.specs.Fits.{FitsTimes, FitsByte, FitsTextCode, FitsPlace, FitsPlaces, FitBody, FitParts}
@@ -243,44 +244,10 @@ texts_fit (r ∷ rs) h =
     (All-append FitsTagText _ _ (shorts_fit r.sub_account k.sub_account) (tag_texts_fit r.tags k.tags.2)))))
     (texts_fit rs (All-tail IsRow r rs h))
 
-one_at_most : (t : Option Text) → length (option_to_list t) ≤ 1
-one_at_most None = omega arith
-one_at_most (Some t) = omega arith
-
-two_each : (ts : List TagText) → length (texts_of_tags ts) ≡ 2 * length ts
-unfolding texts_of_tags
-two_each [] = refl
-two_each (t ∷ ts) = let rest : length (texts_of_tags ts) ≡ 2 * length ts = two_each ts in omega (arith, rest)
-
-texts_few : (c : Charge) → IsRow c → length (texts_of c) ≤ 516
-unfolding texts_of
-texts_few c h =
-    let le : length c.tags ≤ most_tags = (list_parts FitsTag 0 most_tags c.tags h.tags).1 in
-    let count : length (texts_of_tags c.tags) ≡ 2 * length c.tags = two_each c.tags in
-    simp length-append (omega (arith, le, count, one_at_most (option_map (λ d. d.id) c.discount), one_at_most c.unit, one_at_most c.sku, one_at_most c.sub_account))
-
-all_few : (rows : List Charge) → All IsRow rows → length (flat_map texts_of rows) ≤ 516 * length rows
-all_few [] h = omega arith
-all_few (r ∷ rs) h =
-    let one : length (texts_of r) ≤ 516 = texts_few r (All-head IsRow r rs h) in
-    let rest : length (flat_map texts_of rs) ≤ 516 * length rs = all_few rs (All-tail IsRow r rs h) in
-    let sum : length (texts_of r ++ flat_map texts_of rs) ≡ length (texts_of r) + length (flat_map texts_of rs) = length-append (texts_of r) (flat_map texts_of rs) in
-    omega (arith, one, rest, sum)
-
-no_more : (names ts : List Text) → length (with_texts names ts) ≤ length names + length ts
-unfolding with_texts
-no_more names [] = omega arith
-no_more names (t ∷ ts) =
-    let one = with_text_adds_one names t in
-    let rest = no_more (with_text names t) ts in
-    omega (arith, one, rest)
-
 pub names_few : (rows : List Charge) → AreRows rows → length (names_of rows) ≤ 33816576
-unfolding names_of
 names_few rows h =
-    let made = no_more [] (flat_map texts_of rows) in
-    let all : length (flat_map texts_of rows) ≤ 516 * length rows = all_few rows h.each in
-    omega (arith, made, all, h.few)
+    let made = few_names rows (All-weaker IsRow IsCharge (λ c k. k.charge) rows h.each) in
+    omega (arith, made, h.few)
 
 names_fit : (rows : List Charge) → All IsRow rows → All FitsTagText (names_of rows)
 unfolding names_of

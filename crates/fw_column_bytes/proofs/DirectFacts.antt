@@ -1,22 +1,25 @@
 -- The rows that have the columns which were read.
-use Rattle.std.proofs.Common.{◌≡◌, ◌↔◌, ◌≤◌, ℕ, zero, suc, Bool, true, false, List, [], ◌∷◌, length, map, Option, Some, None, refl, sym, ap, subst, ◌∙◌, arith}
+use Rattle.std.proofs.Common.{◌≡◌, ◌↔◌, ◌≤◌, ◌*◌, ℕ, All, zero, suc, Bool, true, false, List, [], ◌∷◌, length, map, Option, Some, None, refl, sym, ap, subst, ◌∙◌, arith}
 use Rattle.std.specs.Prelude.{◌==◌, ℤ, pos, nat_abs, nat_lt, is_some, string_bytes, IfNone, IfSome, IsNone}
 use Rattle.std.specs.List.{AllByRecursion, IsDistinct, flat_map}
 use Rattle.std.proofs.lemmas.Bool.{ltb-false, leb-true}
 use Rattle.std.proofs.lemmas.List.{length-map}
-use Rattle.std.proofs.lemmas.List.Elements.{All-weaker}
+use Rattle.std.proofs.lemmas.List.Elements.{All-map, All-weaker}
 use Rattle.std.proofs.lemmas.Simd.{map-map}
 use Rattle.fw_bytes.specs.Spelling.{FitsOptional}
 use Rattle.fw_charge.specs.Charge.{Charge}
 use Rattle.fw_charge.specs.Spelling.{FitsNanos, IsRow}
 use Rattle.fw_money.specs.Amount.{most_nanos}
-use Rattle.fw_row_table.specs.Names.{AreDistinct, AreNames}
-use Rattle.fw_row_table.specs.Table.{quantity_kept}
-use Rattle.fw_row_table.specs.Texts.{texts_of, names_of}
-use Rattle.fw_columns.specs.PartsView.{AreParts, AreInRange}
-use Rattle.fw_columns.specs.PartsView as view
-use Rattle.fw_columns.specs.declared.parts.Parts.{Parts}
-use Rattle.fw_columns.proofs.PartFacts.{distinct_seen}
+use Rattle.fw_row_table.specs.Names.{AreDistinct, AreNames, place_of}
+use Rattle.fw_row_table.specs.Codes.{text_code}
+use Rattle.fw_row_table.specs.Lists.{lists_of}
+use Rattle.fw_row_table.specs.Table.{AreColumns, id_kept, quantity_kept}
+use Rattle.fw_row_table.specs.declared.table.Table.{Table}
+use Rattle.fw_row_table.specs.Texts.{most_texts, texts_of, names_of, with_texts}
+use Rattle.fw_row_table.proofs.ListFacts.{length-lists_of}
+use Rattle.fw_columns.specs.Parts.{HasNoRows, lists_there}
+use Rattle.fw_columns.proofs.PartColumns.{names_few as few_names}
+use Rattle.fw_columns.proofs.PartFacts.{distinct_seen, numbered_there}
 use Rattle.fw_column_bytes.specs.Fits.{FitsByte, FitParts}
 use Rattle.fw_column_bytes.specs.Kept.{AreRows}
 use Rattle.fw_column_bytes.specs.PartsView.{parts_view}
@@ -53,8 +56,8 @@ flag_there false = refl
 
 -- ---- columns that are those of rows
 
-pub columns_match : (p : Parts) (w : PartsRead) (rows : List Charge) → FitParts (parts_view w) → AreReadIn p w → AreParts p rows → AreColumnsOf (parts_view w) rows
-columns_match p w rows fit read k =
+pub columns_match : (t : Table) (w : PartsRead) (rows : List Charge) → FitParts (parts_view w) → AreReadIn t w → AreColumns t rows → AreColumnsOf (parts_view w) rows
+columns_match t w rows fit read k =
     let names = sym read.names ∙ k.names in
     let billed = sym read.billed ∙ k.billed in
     let count : w.front.count ≡ length rows = sym fit.1.0.0.0 ∙ (ap length billed ∙ length-map rows (λ c. c.billed)) in
@@ -64,16 +67,16 @@ columns_match p w rows fit read k =
     let starts : w.body.periods.starts.items ≡ map (λ c. c.start) rows =
     sym (signs_back w.body.periods.starts.items) ∙ (ap (map nat_abs) (sym read.starts ∙ k.starts) ∙ map-map nat_abs (λ (c : Charge). pos c.start) rows) in
     let ends = sym read.ends ∙ k.ends in
-    let discounts = sym read.discounts ∙ k.discounts in
+    let discounts = sym read.discounts ∙ (k.discounts ∙ (λ j. map (λ c. id_kept (k.names j) c.discount) rows)) in
     let kinds = sym read.kinds ∙ k.kinds in
     let statuses = sym read.statuses ∙ k.statuses in
     let there : w.body.quantities.are_there.items ≡ map (λ c. flag (is_some c.quantity)) rows =
     sym (flags_back w.body.quantities.are_there.items fit.1.1.1.1.0.0.1) ∙ (ap (map flag) (sym read.has_quantity ∙ k.has_quantity) ∙ map-map flag (λ (c : Charge). is_some c.quantity) rows) in
     let quantities = sym read.quantities ∙ k.quantities in
-    let units = sym read.units ∙ k.units in
-    let skus = sym read.skus ∙ k.skus in
-    let sub_accounts = sym read.sub_accounts ∙ k.sub_accounts in
-    let tags = sym read.tags ∙ k.tags in
+    let units = sym read.units ∙ (k.units ∙ (λ j. map (λ c. text_code (k.names j) c.unit) rows)) in
+    let skus = sym read.skus ∙ (k.skus ∙ (λ j. map (λ c. text_code (k.names j) c.sku) rows)) in
+    let sub_accounts = sym read.sub_accounts ∙ (k.sub_accounts ∙ (λ j. map (λ c. text_code (k.names j) c.sub_account) rows)) in
+    let tags = sym read.tags ∙ (numbered_there t.lists t.tags.items (lists_of t.names rows) (record { seen = k.lists; places = k.tags }) ∙ (λ j. lists_of (k.names j) rows)) in
     record {
       charges = k.charges;
       fields =
@@ -86,53 +89,63 @@ columns_match p w rows fit read k =
           ));
     }
 
-pub columns_match_if : (p : Parts) (w : PartsRead) → FitParts (parts_view w) → (r : Option (List Charge)) → IfSome r (λ rows. AreParts p rows) → AreReadIn p w → IfSome r (λ rows. AreColumnsOf (parts_view w) rows)
-columns_match_if p w fit None h read = tt
-columns_match_if p w fit (Some rows) h read = columns_match p w rows fit read h
-
--- and rows that have what was read have the columns
-parts_match : (p : Parts) (w : PartsRead) (rows : List Charge) → AreReadIn p w → AreColumnsOf (parts_view w) rows → AreParts p rows
-parts_match p w rows read k =
-    let f = k.fields in
-    record {
-      charges = k.charges;
-      names = read.names ∙ ap (λ (x : reading.Parts). x.0.1.1) f;
-      tags = read.tags ∙ ap (λ (x : reading.Parts). x.1.1.1.1.1.1) f;
-      billed = read.billed ∙ ap (λ (x : reading.Parts). x.1.0.0) f;
-      effective = read.effective ∙ ap (λ (x : reading.Parts). x.1.0.1.0) f;
-      categories = read.categories ∙ ap (λ (x : reading.Parts). x.1.0.1.1.0) f;
-      classes = read.classes ∙ ap (λ (x : reading.Parts). x.1.0.1.1.1) f;
-      starts = read.starts ∙ (ap (λ (x : reading.Parts). map pos x.1.1.0.0) f ∙ map-map pos (λ (c : Charge). c.start) rows);
-      ends = read.ends ∙ ap (λ (x : reading.Parts). x.1.1.0.1) f;
-      discounts = read.discounts ∙ ap (λ (x : reading.Parts). x.1.1.1.0.0) f;
-      kinds = read.kinds ∙ ap (λ (x : reading.Parts). x.1.1.1.0.1.0) f;
-      statuses = read.statuses ∙ ap (λ (x : reading.Parts). x.1.1.1.0.1.1) f;
-      quantities = read.quantities ∙ ap (λ (x : reading.Parts). x.1.1.1.1.0.1) f;
-      has_quantity =
-          read.has_quantity ∙ (ap (λ (x : reading.Parts). map (λ b. b == 1) x.1.1.1.1.0.0) f
-          ∙ (map-map (λ b. b == 1) (λ (c : Charge). flag (is_some c.quantity)) rows ∙ (λ j. map (λ (c : Charge). flag_there (is_some c.quantity) j) rows)));
-      units = read.units ∙ ap (λ (x : reading.Parts). x.1.1.1.1.1.0.0) f;
-      skus = read.skus ∙ ap (λ (x : reading.Parts). x.1.1.1.1.1.0.1.0) f;
-      sub_accounts = read.sub_accounts ∙ ap (λ (x : reading.Parts). x.1.1.1.1.1.0.1.1) f;
-    }
+pub columns_match_if : (t : Table) (w : PartsRead) → FitParts (parts_view w) → (r : Option (List Charge)) → IfSome r (λ rows. AreColumns t rows) → AreReadIn t w → IfSome r (λ rows. AreColumnsOf (parts_view w) rows)
+columns_match_if t w fit None h read = tt
+columns_match_if t w fit (Some rows) h read = columns_match t w rows fit read h
 
 quantity_within : (q : Option ℤ) → FitsOptional FitsNanos q → nat_abs (quantity_kept q) ≤ most_nanos
 unfolding quantity_kept
 quantity_within None h = omega arith
 quantity_within (Some q) h = leb-true _ _ h.1
 
-in_range : (rows : List Charge) → AreRows rows → AreInRange rows
-in_range rows h = record {
-  some = h.some;
-  few = h.few;
-  billed = All-weaker IsRow (λ (c : Charge). nat_abs c.billed ≤ most_nanos) (λ c k. leb-true _ _ k.billed.1) rows h.each;
-  effective = All-weaker IsRow (λ (c : Charge). nat_abs c.effective ≤ most_nanos) (λ c k. leb-true _ _ k.effective.1) rows h.each;
-  quantities = All-weaker IsRow (λ (c : Charge). nat_abs (quantity_kept c.quantity) ≤ most_nanos) (λ c k. quantity_within c.quantity k.quantity) rows h.each;
-}
+-- and rows that have what was read have the table
+rows_match : (t : Table) (w : PartsRead) (rows : List Charge) → AreReadIn t w → AreRows rows → AreColumnsOf (parts_view w) rows → AreColumns t rows
+rows_match t w rows read are k =
+    let f = k.fields in
+    let Amount : ℤ → Type 0 = λ n. nat_abs n ≤ most_nanos in
+    let names : t.names ≡ names_of rows = read.names ∙ ap (λ (x : reading.Parts). x.0.1.1) f in
+    let lists : lists_there t.lists t.tags.items ≡ lists_of t.names rows = read.tags ∙ (ap (λ (x : reading.Parts). x.1.1.1.1.1.1) f ∙ (λ j. lists_of (sym names j) rows)) in
+    let billed = read.billed ∙ ap (λ (x : reading.Parts). x.1.0.0) f in
+    let effective = read.effective ∙ ap (λ (x : reading.Parts). x.1.0.1.0) f in
+    let quantities = read.quantities ∙ ap (λ (x : reading.Parts). x.1.1.1.1.0.1) f in
+    let size : length t.tags.items ≡ length rows =
+    ap length read.numbered.places ∙ (length-map (lists_there t.lists t.tags.items) (place_of t.lists) ∙ (ap length lists ∙ length-lists_of t.names rows)) in
+    let made : length (names_of rows) ≤ most_texts * length rows = few_names rows k.charges in
+    let same : length t.names ≡ length (names_of rows) = ap length names in
+    record {
+      few = are.few;
+      charges = k.charges;
+      names = names;
+      names_few = omega (arith, made, same);
+      lists = read.numbered.seen ∙ ap (with_texts []) lists;
+      lists_few = omega (arith, read.few, size);
+      billed = billed;
+      effective = effective;
+      billed_range = subst (All Amount) (sym billed) (All-map Amount (λ (c : Charge). c.billed) rows (All-weaker IsRow (λ (c : Charge). Amount c.billed) (λ c r. leb-true _ _ r.billed.1) rows are.each));
+      effective_range = subst (All Amount) (sym effective) (All-map Amount (λ (c : Charge). c.effective) rows (All-weaker IsRow (λ (c : Charge). Amount c.effective) (λ c r. leb-true _ _ r.effective.1) rows are.each));
+      categories = read.categories ∙ ap (λ (x : reading.Parts). x.1.0.1.1.0) f;
+      classes = read.classes ∙ ap (λ (x : reading.Parts). x.1.0.1.1.1) f;
+      starts = read.starts ∙ (ap (λ (x : reading.Parts). map pos x.1.1.0.0) f ∙ map-map pos (λ (c : Charge). c.start) rows);
+      ends = read.ends ∙ ap (λ (x : reading.Parts). x.1.1.0.1) f;
+      discounts = read.discounts ∙ (ap (λ (x : reading.Parts). x.1.1.1.0.0) f ∙ (λ j. map (λ c. id_kept (sym names j) c.discount) rows));
+      kinds = read.kinds ∙ ap (λ (x : reading.Parts). x.1.1.1.0.1.0) f;
+      statuses = read.statuses ∙ ap (λ (x : reading.Parts). x.1.1.1.0.1.1) f;
+      quantities = quantities;
+      quantities_range =
+          subst (All Amount) (sym quantities)
+          (All-map Amount (λ (c : Charge). quantity_kept c.quantity) rows (All-weaker IsRow (λ (c : Charge). Amount (quantity_kept c.quantity)) (λ c r. quantity_within c.quantity r.quantity) rows are.each));
+      has_quantity =
+          read.has_quantity ∙ (ap (λ (x : reading.Parts). map (λ b. b == 1) x.1.1.1.1.0.0) f
+          ∙ (map-map (λ b. b == 1) (λ (c : Charge). flag (is_some c.quantity)) rows ∙ (λ j. map (λ (c : Charge). flag_there (is_some c.quantity) j) rows)));
+      units = read.units ∙ (ap (λ (x : reading.Parts). x.1.1.1.1.1.0.0) f ∙ (λ j. map (λ c. text_code (sym names j) c.unit) rows));
+      skus = read.skus ∙ (ap (λ (x : reading.Parts). x.1.1.1.1.1.0.1.0) f ∙ (λ j. map (λ c. text_code (sym names j) c.sku) rows));
+      sub_accounts = read.sub_accounts ∙ (ap (λ (x : reading.Parts). x.1.1.1.1.1.0.1.1) f ∙ (λ j. map (λ c. text_code (sym names j) c.sub_account) rows));
+      tags = read.numbered.places ∙ ap (map (place_of t.lists)) lists;
+    }
 
-pub none_match : (p : Parts) (w : PartsRead) → AreReadIn p w → (r : Option (List Charge)) → (IsNone r ↔ view.HaveNoRows p) → IfNone r (HaveNoRows (parts_view w))
-none_match p w read None exactly = λ rows are has. exactly.0 refl rows (in_range rows are) (parts_match p w rows read has)
-none_match p w read (Some rows) exactly = tt
+pub none_match : (t : Table) (w : PartsRead) → AreReadIn t w → (r : Option (List Charge)) → (IsNone r ↔ HasNoRows t) → IfNone r (HaveNoRows (parts_view w))
+none_match t w read None exactly = λ rows are has. exactly.0 refl rows are.some (rows_match t w rows read are has)
+none_match t w read (Some rows) exactly = tt
 
 names_distinct : (rows : List Charge) → AreDistinct (names_of rows)
 unfolding names_of IsDistinct

@@ -1,12 +1,13 @@
 -- The rows that have the columns which were read. The private functions of the crate cite it.
-use Rattle.std.specs.Prelude.{◌≡◌, ◌==◌, List, All, length, map, pos, is_some, string_bytes}
+use Rattle.std.specs.Prelude.{◌≡◌, ◌≤◌, ◌==◌, List, All, length, map, pos, is_some, string_bytes}
 use Rattle.fw_charge.specs.Charge.{Charge, IsCharge}
 use Rattle.fw_charge.specs.Codes.{category_code, class_code}
-use Rattle.fw_columns.specs.declared.parts.Parts as taken
+use Rattle.fw_columns.specs.Parts.{AreNumbered, lists_there}
 use Rattle.fw_row_table.specs.Codes.{text_code}
 use Rattle.fw_row_table.specs.Lists.{lists_of}
 use Rattle.fw_row_table.specs.Names.{Text}
 use Rattle.fw_row_table.specs.Table.{id_kept, kind_kept, status_kept, quantity_kept}
+use Rattle.fw_row_table.specs.declared.table.Table.{Table}
 use Rattle.fw_row_table.specs.Texts.{names_of}
 use Rattle.fw_column_bytes.specs.Kept.{AreRows}
 use Rattle.fw_column_bytes.specs.Reading.{Parts}
@@ -48,21 +49,23 @@ pub record IsRewritten (w : PartsRead) (k : Rewritten) : Type 0 where
   pub starts : k.starts.items ≡ map pos w.body.periods.starts.items
   pub has_quantity : k.has_quantity.items ≡ map (λ byte. byte == 1) w.body.quantities.are_there.items
 
--- parts whose columns are those that were read, but for how names, first seconds and flags are kept
-pub record AreReadIn (p : taken.Parts) (w : PartsRead) : Type 0 where
-  pub names : p.names ≡ map string_bytes w.front.names.items
-  pub tags : p.tags ≡ w.body.tags
-  pub billed : p.billed.items ≡ w.body.amounts.billed.items
-  pub effective : p.effective.items ≡ w.body.amounts.effective.items
-  pub categories : p.categories.items ≡ w.body.amounts.categories.items
-  pub classes : p.classes.items ≡ w.body.amounts.classes.items
-  pub starts : p.starts.items ≡ map pos w.body.periods.starts.items
-  pub ends : p.ends.items ≡ w.body.periods.ends.items
-  pub discounts : p.discounts.items ≡ w.body.discounts.ids.items
-  pub kinds : p.kinds.items ≡ w.body.discounts.kinds.items
-  pub statuses : p.statuses.items ≡ w.body.discounts.statuses.items
-  pub has_quantity : p.has_quantity.items ≡ map (λ byte. byte == 1) w.body.quantities.are_there.items
-  pub quantities : p.quantities.items ≡ w.body.quantities.counts.items
-  pub units : p.units.items ≡ w.body.texts.units.items
-  pub skus : p.skus.items ≡ w.body.texts.skus.items
-  pub sub_accounts : p.sub_accounts.items ≡ w.body.texts.sub_accounts.items
+-- a table whose columns are those that were read, but for how names, first seconds, flags and lists of tags are kept
+pub record AreReadIn (t : Table) (w : PartsRead) : Type 0 where
+  pub names : t.names ≡ map string_bytes w.front.names.items
+  pub few : length t.lists ≤ length t.tags.items
+  pub numbered : AreNumbered t.lists t.tags.items (lists_there t.lists t.tags.items)
+  pub tags : lists_there t.lists t.tags.items ≡ w.body.tags
+  pub billed : t.billed.items ≡ w.body.amounts.billed.items
+  pub effective : t.effective.items ≡ w.body.amounts.effective.items
+  pub categories : t.categories.items ≡ w.body.amounts.categories.items
+  pub classes : t.classes.items ≡ w.body.amounts.classes.items
+  pub starts : t.starts.items ≡ map pos w.body.periods.starts.items
+  pub ends : t.ends.items ≡ w.body.periods.ends.items
+  pub discounts : t.discounts.items ≡ w.body.discounts.ids.items
+  pub kinds : t.kinds.items ≡ w.body.discounts.kinds.items
+  pub statuses : t.statuses.items ≡ w.body.discounts.statuses.items
+  pub has_quantity : t.has_quantity.items ≡ map (λ byte. byte == 1) w.body.quantities.are_there.items
+  pub quantities : t.quantities.items ≡ w.body.quantities.counts.items
+  pub units : t.units.items ≡ w.body.texts.units.items
+  pub skus : t.skus.items ≡ w.body.texts.skus.items
+  pub sub_accounts : t.sub_accounts.items ≡ w.body.texts.sub_accounts.items

@@ -10,7 +10,8 @@ ghost use Rattle.fw_column_bytes.specs.Rows.{AreColumnsOf, AreReadIn, HaveNoRows
 
 use crate::reading::{PartsRead, parts_of};
 use fw_bytes::ReadError;
-use fw_columns::{Columns, Names, Parts};
+use fw_columns::{Columns, Names};
+use fw_row_table::Table;
 use std::alloc::{AllocError, Global};
 
 /// Flags of a byte each: whether it is 1.
@@ -63,8 +64,8 @@ fn rewrite(alloc: Global, parts: &PartsRead) -> Result<Option<Rewritten>, AllocE
     }))
 }
 
-/// The columns that were read, and what rows keep in another way.
-fn parts_with(parts: PartsRead, kept: Rewritten) -> Parts
+/// The table of the columns that were read, and of what rows keep in another way.
+fn table_with(parts: PartsRead, kept: Rewritten) -> Table
     requires { IsRewritten parts kept }
     ensures { AreReadIn result parts }
 {
@@ -74,9 +75,10 @@ fn parts_with(parts: PartsRead, kept: Rewritten) -> Parts
     let discounts = body.discounts;
     let quantities = body.quantities;
     let texts = body.texts;
-    Parts {
+    let (lists, tags) = body.tags.split();
+    Table {
         names: kept.names,
-        tags: body.tags,
+        lists,
         billed: amounts.billed,
         effective: amounts.effective,
         categories: amounts.categories,
@@ -91,6 +93,7 @@ fn parts_with(parts: PartsRead, kept: Rewritten) -> Parts
         units: texts.units,
         skus: texts.skus,
         sub_accounts: texts.sub_accounts,
+        tags,
     }
 }
 
@@ -104,7 +107,7 @@ fn columns_with(alloc: Global, parts: PartsRead) -> Result<Option<Columns>, Allo
     let Some(kept) = rewrite(alloc, &parts)? else {
         return Ok(None);
     };
-    let columns = Columns::of_parts(alloc, parts_with(parts, kept))?;
+    let columns = Columns::checked(alloc, table_with(parts, kept))?;
     Ok(columns)
 }
 

@@ -3,7 +3,7 @@ mod JoinFacts
 mod GroupFacts
 pub mod KeptFacts
 pub mod PartFacts
-mod PartColumns
+pub mod PartColumns
 mod PartRows
 pub mod HourFacts
 mod RunFacts

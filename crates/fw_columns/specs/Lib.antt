@@ -4,7 +4,6 @@ pub mod Rows
 pub mod Adding
 pub mod Grouping
 pub mod Parts
-pub mod PartsView
 pub mod Hours
 pub mod ByHour
 pub mod BySku

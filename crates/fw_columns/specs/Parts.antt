@@ -2,14 +2,14 @@
 use Rattle.std.specs.Prelude.{◌≡◌, ◌<◌, ◌≤◌, ◌*◌, ◌/◌, ◌++◌, ℕ, ℤ, pos, nat_abs, Bool, false, List, [], length, map, take, slice_index_or, option_to_list, IfSome, IsSome, All}
 use Rattle.std.specs.List.{flat_map, range_with_len}
 use Rattle.fw_money.specs.Amount.{most_nanos}
-use Rattle.fw_charge.specs.Charge.{IsShortText, IsDiscountOf, last_second}
+use Rattle.fw_charge.specs.Charge.{Charge, IsShortText, IsDiscountOf, last_second}
 use Rattle.fw_charge.specs.Codes.{category_code, class_code, status_code, status_of}
 use Rattle.fw_charge.specs.declared.category.Category.{Category}
 use Rattle.fw_charge.specs.declared.category.Category.TheVariants as category
 use Rattle.fw_charge.specs.Tags.{IsTags}
 use Rattle.fw_row_table.specs.Names.{Text, place_of}
 use Rattle.fw_row_table.specs.Texts.{with_texts}
-use Rattle.fw_row_table.specs.Table.{category_at, class_at, kind_kept, status_kept, quantity_kept, text_at, text_of, discount_of, quantity_of, tags_of, list_at}
+use Rattle.fw_row_table.specs.Table.{AreColumns, category_at, class_at, kind_kept, status_kept, quantity_kept, text_at, text_of, discount_of, quantity_of, tags_of, list_at}
 use Rattle.fw_row_table.specs.declared.table.Table.{Table}
 
 -- lists, each once and in the order in which it is first seen, and for each row the place of its list
@@ -116,3 +116,7 @@ texts_there t i =
 pub record HaveRows (t : Table) (n : ℕ) : Type 0 where
   pub values : (i : ℕ) → i < n → HasValues t i
   pub names : t.names ≡ with_texts [] (flat_map (texts_there t) (range_with_len 0 n))
+
+-- no rows have this table
+abbrev pub HasNoRows : Table → Type 0
+HasNoRows t = (rows : List Charge) → 0 < length rows → ¬ AreColumns t rows

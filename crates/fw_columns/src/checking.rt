@@ -1,10 +1,10 @@
 //! Whether columns that were put together elsewhere are those of rows.
-ghost use Rattle.std.specs.Prelude.{◌≡◌, ◌≢◌, ◌+◌, ◌<◌, ◌≤◌, ◌↔◌, [], ◌∷◌, List, length, map, pos, nat_abs, option_to_list, slice_index_or, All, IfNone, IfSome, IsTrue};
+ghost use Rattle.std.specs.Prelude.{◌≡◌, ◌≢◌, ◌+◌, ◌<◌, ◌≤◌, ◌↔◌, [], ◌∷◌, List, length, map, pos, nat_abs, option_to_list, slice_index_or, All, IfNone, IfOk, IfSome, IsNone, IsTrue};
 ghost use Rattle.fw_charge.specs.Charge.{Charge};
 ghost use Rattle.fw_charge.specs.Codes.{category_code, class_code};
 ghost use Rattle.fw_charge.specs.Tags.{longest_tag_text};
 ghost use Rattle.fw_money.specs.Amount.{most_nanos};
-ghost use Rattle.fw_columns.specs.Parts.{AreListsSeen, AreNumbered, AreOutOfTurn, lists_there, HaveLength, HaveRows, HaveSeen, HaveShortCodes, HasValues, IsDiscountKept, IsPeriod, IsQuantityKept, IsShortCode, IsStatusOf, IsTagList, texts_there};
+ghost use Rattle.fw_columns.specs.Parts.{AreListsSeen, AreNumbered, AreOutOfTurn, lists_there, HaveLength, HaveRows, HaveSeen, HaveShortCodes, HasNoRows, HasValues, IsDiscountKept, IsPeriod, IsQuantityKept, IsShortCode, IsStatusOf, IsTagList, texts_there};
 ghost use Rattle.fw_row_table.specs.Table.{AreColumns, rows_of, category_at, class_at, list_at, text_at, text_of, tags_of};
 ghost use Rattle.fw_bytes.specs.Order.{rise};
 
@@ -14,9 +14,28 @@ use fw_charge::{
 };
 use fw_money::Nanos;
 use fw_row_table::{Lists, Names, Table, category_at};
+use std::alloc::{AllocError, Global};
+
+impl Columns {
+    /// The columns of the rows that have this table, whose lists of tags are numbered as they are first seen. `None` exactly where no rows have it, 1 to 65,536 of
+    /// them with amounts in range: as where a name is no text of a row, or stands before one that occurs earlier.
+    pub fn checked(alloc: Global, table: Table) -> Result<Option<Columns>, AllocError>
+        requires few { length table.lists ≤ length table.tags.items }
+        requires numbered { AreNumbered table.lists table.tags.items
+            (lists_there table.lists table.tags.items) }
+        ensures some { IfOk result (λ made. IfSome made (λ columns. AreColumns table columns)) }
+        ensures exactly { IfOk result (λ made. IsNone made ↔ HasNoRows table) }
+    {
+        if !are_columns(&table) {
+            return Ok(None);
+        }
+        let columns = Columns::of_table(alloc, table)?;
+        Ok(Some(columns))
+    }
+}
 
 /// Whether columns are those of rows, 1 to 65,536 of them.
-pub fn are_columns(table: &Table) -> bool
+fn are_columns(table: &Table) -> bool
     requires few { length table.now.lists ≤ length table.now.tags.items }
     requires numbered { AreNumbered table.now.lists table.now.tags.items
         (lists_there table.now.lists table.now.tags.items) }

@@ -67,7 +67,7 @@ impl RowLists {
     }
 
     /// The lists, each once, and for each row the place of its list.
-    pub(crate) fn split(self) -> (Lists, Vec<u32>)
+    pub fn split(self) -> (Lists, Vec<u32>)
         ensures few { length result.0 ≤ length result.1.items }
         ensures numbered { AreNumbered result.0 result.1.items self }
         ensures shown { lists_there result.0 result.1.items ≡ self }
