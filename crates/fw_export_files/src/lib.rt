@@ -17,6 +17,7 @@ pub use faults::code_of;
 pub use files::{all_exports, texts_of};
 pub use keeps::{keeper_of, read_keeps};
 pub use kept_columns::{HeaderFault, header_fault, say_header, say_kept};
+pub use opening::Source;
 pub use taker::Taker;
 pub use walk::Walk;
 pub use walking::walk_files;

@@ -24,7 +24,7 @@ impl Read for Input {
 
 /// What a file or standard input has.
 #[derive(Drop)]
-pub(crate) struct Source {
+pub struct Source {
     input: Input,
     // the bytes that were read to see what the file is
     start: Vec<u8>,

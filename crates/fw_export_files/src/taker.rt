@@ -1,7 +1,9 @@
 //! What a command does with exports.
+use crate::opening::Source;
 use crate::walk::Walk;
 use fw_console::Fault;
-use fw_cut::{CutFault, Part};
+use fw_cut::{CutFault, Cutter, Part};
+use std::alloc::Global;
 
 /// What a command does with the exports that the command line names, each part by part.
 pub trait Taker {
@@ -23,6 +25,16 @@ pub trait Taker {
     /// How many parts are cut before the one that stands before them is taken.
     fn parts_ahead(&self) -> usize {
         0
+    }
+
+    /// The next part of an export, or why it can't be cut. A command that has threads may keep the cutter while one of these cuts the part behind; it
+    /// then has the part when it is asked for. None where there is no cutter, which comes behind a last part or a fault alone.
+    fn cut(
+        &mut self,
+        alloc: Global,
+        cutter: &mut Option<Cutter<Source>>,
+    ) -> Option<Result<Part, CutFault>> {
+        Some(cutter.as_mut()?.next_part(alloc))
     }
 
     /// A part was cut, and is taken once those before it were: what can be done with it before may begin.

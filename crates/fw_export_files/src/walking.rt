@@ -93,7 +93,7 @@ fn walk_source<T: Taker>(
     taker: &mut T,
 ) -> Result<bool, Fault> {
     match Cutter::open(rt.alloc(), source) {
-        Ok(mut cutter) => walk_export(rt, &mut cutter, walk, taker),
+        Ok(cutter) => walk_export(rt, cutter, walk, taker),
         Err(CutFault::NoRecord) => taker.take_none(rt, walk),
         Err(fault) => walk.not_cut(rt, fault),
     }
@@ -102,7 +102,7 @@ fn walk_source<T: Taker>(
 // Walks over an export.
 fn walk_export<T: Taker>(
     rt: &HostRuntime,
-    cutter: &mut Cutter<Source>,
+    cutter: Cutter<Source>,
     walk: &mut Walk<'_>,
     taker: &mut T,
 ) -> Result<bool, Fault> {
@@ -124,6 +124,8 @@ enum Taken {
 
 // Parts that were cut and not taken yet, the first one first.
 struct CutParts {
+    // who cuts the parts behind them, if that isn't the taker or one of its threads
+    cutter: Option<Cutter<Source>>,
     parts: VecDeque<Part>,
     // why the part behind them can't be cut
     fault: Option<CutFault>,
@@ -134,6 +136,7 @@ struct CutParts {
 impl Drop for CutParts {
     fn drop(self) {
         let Self {
+            cutter: _,
             parts: _,
             fault: _,
             is_end: _,
@@ -143,8 +146,9 @@ impl Drop for CutParts {
 
 impl CutParts {
     // Nothing was cut yet.
-    fn new(alloc: Global) -> CutParts {
+    fn new(alloc: Global, cutter: Cutter<Source>) -> CutParts {
         CutParts {
+            cutter: Some(cutter),
             parts: VecDeque::new(alloc),
             fault: None,
             is_end: false,
@@ -155,7 +159,6 @@ impl CutParts {
     fn fill<T: Taker>(
         &mut self,
         rt: &HostRuntime,
-        cutter: &mut Cutter<Source>,
         walk: &Walk<'_>,
         taker: &mut T,
     ) -> Result<(), Fault> {
@@ -163,16 +166,17 @@ impl CutParts {
             if self.is_end {
                 break;
             }
-            match cutter.next_part(rt.alloc()) {
-                Ok(part) => {
+            match taker.cut(rt.alloc(), &mut self.cutter) {
+                Some(Ok(part)) => {
                     self.is_end = part.is_last;
                     taker.see(rt, walk, &part)?;
                     self.parts.push_back(part)?;
                 }
-                Err(fault) => {
+                Some(Err(fault)) => {
                     self.is_end = true;
                     self.fault = Some(fault);
                 }
+                None => self.is_end = true,
             }
         }
         Ok(())
@@ -182,13 +186,13 @@ impl CutParts {
 // Walks over the parts of an export in order; false where one was refused, which was said.
 fn walk_parts<T: Taker>(
     rt: &HostRuntime,
-    cutter: &mut Cutter<Source>,
+    cutter: Cutter<Source>,
     walk: &mut Walk<'_>,
     taker: &mut T,
 ) -> Result<bool, Fault> {
-    let mut cut = CutParts::new(rt.alloc());
+    let mut cut = CutParts::new(rt.alloc(), cutter);
     for _ in 0..u64::MAX {
-        cut.fill(rt, cutter, walk, taker)?;
+        cut.fill(rt, walk, taker)?;
         let Some(part) = cut.parts.pop_front() else {
             break;
         };
