@@ -167,50 +167,10 @@ fn plain_len(text: &[u8]) -> usize
     ensures within { result ≤ length text.now }
     ensures plain { All IsPlain (take result text.now) }
 {
-    let passed = plain_blocks(text);
-    let (_, rest) = text.split_at(passed);
-    passed + plain_bytes(rest)
-}
-
-// The same, looked for from the first byte on.
-fn plain_bytes(text: &[u8]) -> usize
-    ensures within { result ≤ length text.now }
-    ensures plain { All IsPlain (take result text.now) }
-{
     match memchr3(QUOTE, CARRIAGE_RETURN, LINE_FEED, text) {
         Some(at) => at,
         None => text.len(),
     }
-}
-
-// How many bytes the blocks have that stand before the first one with a quote or a line end.
-fn plain_blocks(text: &[u8]) -> usize
-    ensures within { result ≤ length text.now }
-    ensures plain { All IsPlain (take result text.now) }
-{
-    let mut at = 0;
-    while at + BLOCK <= text.len() {
-        if !is_plain_block(text, at) {
-            return at;
-        }
-        at += BLOCK;
-    }
-    at
-}
-
-// Whether there is no quote and no line end in the block at a place. No byte is branched on, so many are looked at together.
-#[inline(always)]
-fn is_plain_block(text: &[u8], at: usize) -> bool
-    requires { at + block ≤ length text.now }
-    ensures { IsTrue result → All IsPlain (take at text.now)
-        → All IsPlain (take (at + block) text.now) }
-{
-    let mut has_other = false;
-    for index in at..at + BLOCK {
-        let byte = text[index];
-        has_other |= (byte == QUOTE) | (byte == CARRIAGE_RETURN) | (byte == LINE_FEED);
-    }
-    !has_other
 }
 
 // How many bytes stand before the quote that closes a field, two quotes in a row being none; where the text ends behind a quote, those before it.
@@ -230,7 +190,7 @@ fn quoted_len(text: &[u8]) -> usize
     at
 }
 
-/// How many bytes are looked at together.
+/// How many bytes within quotes are looked at together.
 const BLOCK: usize = 32;
 
 // Where up to a block of bytes within quotes ends that are looked at one by one: it ends before a quote that closes the field.
