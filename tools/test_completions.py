@@ -136,9 +136,13 @@ class Terminal:
             self.await_one(ready)
         except TimeoutError:
             self.lost = ""
-            self.prompts += 1
             os.write(self.screen, b"\r")
-            self.await_one(f"[ready {self.prompts}]".encode())
+            # The line brings the prompt that was missing, or the one behind it, or the shell shows both.
+            behind = f"[ready {self.prompts + 1}]".encode()
+            shown = self.await_one(ready, behind)
+            self.settle()
+            if shown == behind or behind in self.shown:
+                self.prompts += 1
 
     def enter(self, keys):
         """Types these keys and Enter, and waits for the next prompt."""

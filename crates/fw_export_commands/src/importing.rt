@@ -258,8 +258,9 @@ impl<'a> Import<'a> {
 
     /// Makes a checkpoint at the end, where it pays.
     pub(crate) fn end(&mut self, alloc: Global) -> Result<(), StoreFault> {
+        let is_longer = self.added > 0;
         if let Some(store) = self.house.store() {
-            if store.checkpoint_pays() {
+            if store.checkpoint_pays() || is_longer && pays_at_the_end(store) {
                 store.checkpoint(alloc)?;
             }
         }
@@ -271,6 +272,15 @@ impl<'a> Import<'a> {
 /// log as in the body, the rows become three times as many from one checkpoint to the next. Then all of them together write each row about one and a half
 /// times, however long the import is, and the one at its end once more.
 const LOG_PER_BODY: u64 = 4;
+
+/// How many times as long as the log the body may be for a checkpoint at the end of an import that added rows: such a log takes longer to read than the body
+/// to write, so the checkpoint pays with the first question.
+const BODY_PER_LOG: u64 = 4;
+
+// Whether the log of a warehouse is so long that a checkpoint pays at the end of an import.
+fn pays_at_the_end(store: &Store<FileVolume>) -> bool {
+    store.body_len() <= store.log_len().saturating_mul(BODY_PER_LOG)
+}
 
 // Whether the log of a warehouse is so much longer than its body that an import makes a checkpoint while it goes on.
 fn is_long(store: &Store<FileVolume>) -> bool {
