@@ -1,5 +1,5 @@
 //! Rows kept by column.
-ghost use Rattle.std.specs.Prelude.{◌≡◌, ◌<◌, ◌≤◌, ◌+◌, ◌-◌, ◌*◌, ◌↔◌, ◌++◌, ℕ, Some, length, map, nat_abs, option_map, pos, slice_get, slice_index, slice_range, All, Contains, IfOk};
+ghost use Rattle.std.specs.Prelude.{◌≡◌, ◌<◌, ◌≤◌, ◌+◌, ◌-◌, ◌*◌, ◌↔◌, ◌++◌, ℕ, Some, length, map, nat_abs, option_map, pos, slice_get, slice_index, slice_range, All, Contains, IfOk, IfSome};
 ghost use Rattle.std.specs.List.{flat_map};
 ghost use Rattle.std.specs.List.Sorted.{IsStrictlyIncreasing};
 ghost use Rattle.fw_charge.specs.Charge.{Charge, hour_of};
@@ -31,11 +31,16 @@ use std::sync::Arc;
 /// and the length of the rows in bytes are found once.
 pub struct Columns {
     shared: Arc<Kept>,
+    /// What the rows are spelled as, where that was made beforehand.
+    spelling: Option<Vec<u8>>,
 }
 
 impl Drop for Columns {
     fn drop(self) {
-        let Self { shared: _ } = self;
+        let Self {
+            shared: _,
+            spelling: _,
+        } = self;
     }
 }
 
@@ -62,7 +67,7 @@ impl Drop for Kept {
 }
 
 impl Model for Columns {
-    ghost use Rattle.std.specs.Prelude.{◌≡◌, ◌<◌, List, length, All};
+    ghost use Rattle.std.specs.Prelude.{◌≡◌, ◌<◌, List, length, All, IfSome};
     ghost use Rattle.std.specs.List.{flat_map};
     ghost use Rattle.fw_charge.specs.Charge.{Charge};
     ghost use Rattle.fw_charge.specs.Spelling.{row, IsRow};
@@ -81,7 +86,8 @@ impl Model for Columns {
         × AreSkusByHour c.shared.value.by_sku (rows_of c.shared.value.table)
         × (c.shared.value.encoded_len ≡ length (flat_map row (rows_of c.shared.value.table)))
         × All IsRow (rows_of c.shared.value.table)
-        × AreLengths c.shared.value.lengths c.shared.value.table };
+        × AreLengths c.shared.value.lengths c.shared.value.table
+        × IfSome c.spelling (λ s. s.items ≡ flat_map row (rows_of c.shared.value.table)) };
 }
 
 impl Columns {
@@ -112,6 +118,7 @@ impl Columns {
                     encoded_len,
                 },
             )?,
+            spelling: None,
         })
     }
 
@@ -139,12 +146,13 @@ impl Columns {
         &self.shared.by_sku
     }
 
-    /// The same rows, shared. It takes no memory. The error comes only where the columns have as many owners as can be counted.
+    /// The same rows, shared, without a [spelling](Columns::with_spelling). It takes no memory. The error comes only where the columns have as many owners as can be counted.
     pub fn copy(&self) -> Result<Columns, AllocError>
         ensures { IfOk result (λ copy. copy ≡ self.now) }
     {
         Ok(Columns {
             shared: Arc::try_clone(&self.shared)?,
+            spelling: None,
         })
     }
 
@@ -178,6 +186,29 @@ impl Columns {
         ensures valid { All IsRow self.now }
     {
         self.shared.encoded_len
+    }
+
+    /// The same columns, with the bytes that their rows are written as, one row after the other: whoever writes them copies these. A
+    /// [copy](Columns::copy) hasn't them.
+    pub fn with_spelling(self, spelling: Vec<u8>) -> Columns
+        requires { spelling.items ≡ flat_map row self }
+        ensures { result ≡ self }
+    {
+        let Columns {
+            shared,
+            spelling: _before,
+        } = self;
+        Columns {
+            shared,
+            spelling: Some(spelling),
+        }
+    }
+
+    /// The bytes that the rows are written as, one row after the other, where they were [made beforehand](Columns::with_spelling).
+    pub fn spelling(&self) -> Option<&[u8]>
+        ensures { IfSome result (λ spelling. spelling.now ≡ flat_map row self.now) }
+    {
+        self.spelling.as_deref()
     }
 
     /// How many bytes the rows have where they are written, together, from the place `first` on and before the place `end`: at most 527,429 each. No text

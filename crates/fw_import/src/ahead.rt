@@ -4,6 +4,7 @@ ghost use Rattle.fw_import.specs.Ahead.{IsRead};
 
 use fw_column_rows::{KnownTexts, read_columns_after, read_columns_keeping};
 use fw_columns::Columns;
+use fw_row_bytes::spelled;
 use fw_rows::{Currency, Keep, Keeper, RowFault};
 use std::alloc::{AllocError, Global};
 use std::marker::Model;
@@ -77,6 +78,7 @@ fn read_plain(alloc: Global, texts: KnownTexts, text: Vec<u8>, currency: Currenc
 {
     let mut texts = texts;
     let rows = read_columns_after(alloc, text.as_slice(), currency, &mut texts);
+    let rows = rows_spelled(alloc, rows);
     ReadPart {
         reader: Reader {
             texts,
@@ -103,6 +105,7 @@ fn read_keeping(
     let mut texts = texts;
     let mut keeper = keeper;
     let rows = read_columns_keeping(alloc, text.as_slice(), currency, &mut texts, &mut keeper);
+    let rows = rows_spelled(alloc, rows);
     ReadPart {
         reader: Reader {
             texts,
@@ -111,6 +114,16 @@ fn read_keeping(
         currency,
         text,
         rows,
+    }
+}
+
+// The same, with the bytes that rows are written as: whoever takes the part copies them.
+fn rows_spelled(alloc: Global, read: Result<Columns, RowFault>) -> Result<Columns, RowFault>
+    ensures { result ≡ read }
+{
+    match read {
+        Ok(rows) => Ok(spelled(alloc, rows)),
+        Err(fault) => Err(fault),
     }
 }
 

@@ -9,10 +9,8 @@
 
 mod row;
 mod rows;
-mod spelled;
 mod writing;
 
 pub use row::row_of;
 pub use rows::rows_of;
-pub use spelled::rows_have_spelling;
-pub use writing::{put_row, put_rows};
+pub use writing::{put_row, put_rows, spelled};

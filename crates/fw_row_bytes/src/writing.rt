@@ -8,13 +8,12 @@ ghost use Rattle.fw_charge.specs.Tags.{IsTags, IsTagSized};
 ghost use Rattle.fw_charge.specs.Spelling.{tag, tags, amounts, period, discount, consumed, row, IsRow};
 ghost use Rattle.fw_row_table.specs.Lending.{tags_lent};
 
-use crate::spelled::names_are_text;
 use fw_bytes::{put_byte, put_u32, put_u64};
 use fw_charge::class_code;
 use fw_columns::{Columns, LentRow, LentTags};
 use fw_fields::{put_nanos, put_optional_nanos, put_optional_text, put_tag};
 use fw_row_table::Packed;
-use std::alloc::AllocError;
+use std::alloc::{AllocError, Global};
 
 /// Writes each tag in turn.
 fn put_each_tag(out: &mut Vec<u8>, all: LentTags<'_>) -> Result<(), AllocError>
@@ -123,22 +122,13 @@ pub fn put_row(out: &mut Vec<u8>, one: &LentRow<'_>) -> Result<(), AllocError>
     Ok(())
 }
 
-/// Writes rows at the end of the buffer: their number, and each in turn. Each row has a spelling. Rows with the same tags have the same bytes of tags, which
-/// are made once and then copied.
-///
-/// # Errors
-/// [`AllocError`] where the buffer can't grow. Then nothing is promised of what the buffer holds.
-pub fn put_rows(out: &mut Vec<u8>, rows: &Columns) -> Result<(), AllocError>
-    ensures spelled { OnOk result (out.new.items ≡ out.old.items ++ listed row rows.now) }
-    ensures valid { OnOk result (All IsRow rows.now) }
+/// Writes rows in turn. Rows with the same tags have the same bytes of tags, which are made once and then copied.
+fn put_each_row(out: &mut Vec<u8>, rows: &Columns) -> Result<(), AllocError>
+    ensures { OnOk result (out.new.items ≡ out.old.items ++ flat_map row rows.now) }
 {
-    names_are_text(rows.names());
-    let len = rows.len();
     let mut spelled = Packed::new(*out.allocator());
-    put_u32(out, len as u32)?;
-    for place in 0..len {
+    for place in 0..rows.len() {
         let one = rows.lent(place);
-        one.has_spelling();
         put_untagged(out, &one)?;
         let code = rows.tag_list_code(place) as usize;
         if code < spelled.len() {
@@ -152,4 +142,34 @@ pub fn put_rows(out: &mut Vec<u8>, rows: &Columns) -> Result<(), AllocError>
         }
     }
     Ok(())
+}
+
+/// The same columns, with the bytes that their rows are written as, so that [`put_rows`] copies these: one thread can make them while another one writes
+/// other rows. Where memory is refused for them, the columns come back without.
+pub fn spelled(alloc: Global, rows: Columns) -> Columns
+    ensures { result ≡ rows }
+{
+    let mut spelling = Vec::new(alloc);
+    match put_each_row(&mut spelling, &rows) {
+        Ok(()) => rows.with_spelling(spelling),
+        Err(AllocError) => rows,
+    }
+}
+
+/// Writes rows at the end of the buffer: their number, and each in turn, as [`spelled`] made them where it did. Each row has a spelling.
+///
+/// # Errors
+/// [`AllocError`] where the buffer can't grow. Then nothing is promised of what the buffer holds.
+#[tactic(auto, unfolding(fw_bytes::specs::Spelling::listed))]
+pub fn put_rows(out: &mut Vec<u8>, rows: &Columns) -> Result<(), AllocError>
+    ensures spelled { OnOk result (out.new.items ≡ out.old.items ++ listed row rows.now) }
+    ensures valid { OnOk result (All IsRow rows.now) }
+{
+    // Proves that each row has a spelling.
+    let _len = rows.encoded_len();
+    put_u32(out, rows.len() as u32)?;
+    match rows.spelling() {
+        Some(spelling) => out.extend_from_slice(spelling),
+        None => put_each_row(out, rows),
+    }
 }

@@ -8,7 +8,7 @@ ghost use Rattle.fw_segment.specs.States.{Spells, SpellsByColumn};
 
 use crate::groups::put_group;
 use crate::layout::SegmentLayout;
-use crate::segments::{put_segment, rows_have_spelling};
+use crate::segments::put_segment;
 use crate::states::append_state;
 use fw_columns::Columns;
 use fw_entry::Entry;
@@ -44,7 +44,8 @@ pub fn encode_segment(
     ensures spelled { IfOk result (λ bytes. bytes.items ≡ segment layout columns.now) }
     ensures valid { IfOk result (λ _. IsSegment columns.now) }
 {
-    rows_have_spelling(columns);
+    // Proves that each row has a spelling.
+    let _len = columns.encoded_len();
     let mut out = Vec::new(alloc);
     put_segment(&mut out, columns, layout)?;
     Ok(out)

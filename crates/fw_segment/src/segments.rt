@@ -24,13 +24,6 @@ pub fn segment_of(alloc: Global, bytes: &[u8]) -> Result<(Columns, &[u8]), ReadE
     }
 }
 
-/// Proves that each row has a spelling.
-pub fn rows_have_spelling(columns: &Columns)
-    ensures { All IsRow columns.now }
-{
-    fw_row_bytes::rows_have_spelling(columns);
-}
-
 /// Writes a segment at the end of the buffer.
 #[tactic(auto, unfolding(crate::specs::Segments::segment))]
 pub fn put_segment(

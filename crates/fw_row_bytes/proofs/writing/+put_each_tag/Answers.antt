@@ -1,8 +1,6 @@
-use Rattle.std.proofs.Common.{◌≡◌, ◌∙◌, ◌++◌, ◌∷◌, [], suc, length, append_assoc, append-nil, ap, sym, subst, arith}
+use Rattle.std.proofs.Common.{◌≡◌, ◌∙◌, ◌∷◌, [], suc, length, append_assoc, append-nil, ap, sym, subst, arith}
 use Rattle.std.specs.Prelude.{All}
-use Rattle.std.specs.List.{flat_map}
 use Rattle.fw_charge.specs.Tags.{IsTagSized}
-use Rattle.fw_charge.specs.Spelling.{tag}
 use Rattle.fw_row_table.specs.Lending.{tag_lent, tags_lent, tags_split}
 use Rattle.fw_row_bytes.proofs.writing.+put_each_tag.Goals as goal
 

@@ -1,5 +1,6 @@
-use Rattle.std.proofs.Common.{◌≡◌, ◌∙◌, ◌-◌, ap, ◌<◌, ◌≤◌, ◌^◌, List, ℕ, ℤ, All, arith, length, nat_abs, subst, sym, take}
-use Rattle.std.specs.Prelude.{slice_range}
+use Rattle.std.proofs.Common.{◌≡◌, ◌∙◌, ◌-◌, ap, ◌<◌, ◌≤◌, ◌^◌, List, ℕ, ℤ, Option, None, Vec, All, arith, length, nat_abs, subst, sym, take}
+use Rattle.std.specs.Prelude.{slice_range, IfSome}
+use Rattle.std.specs.declared.alloc.Global.{Global}
 use Rattle.std.specs.List.{flat_map}
 use Rattle.std.proofs.lemmas.List.{length-map, take_all}
 use Rattle.fw_charge.specs.Charge.{Charge, hour_of}
@@ -66,7 +67,8 @@ of_rows-encoded_len-requires-clause-within c =
 
 pub invariant_of-result : goal.invariant_of-result
 invariant_of-result c =
-    let IsKept : Kept → Type 0 = λ k. (0 < length (rows_of k.table)) × AreColumns k.table (rows_of k.table) × AreByHour k.by_hour (rows_of k.table) × AreSkusByHour k.by_sku (rows_of k.table) × (k.encoded_len ≡ length (flat_map row (rows_of k.table))) × All IsRow (rows_of k.table) × AreLengths k.lengths k.table in
+    let none : Option (Vec ℕ Global) = None in
+    let IsKept : Kept → Type 0 = λ k. (0 < length (rows_of k.table)) × AreColumns k.table (rows_of k.table) × AreByHour k.by_hour (rows_of k.table) × AreSkusByHour k.by_sku (rows_of k.table) × (k.encoded_len ≡ length (flat_map row (rows_of k.table))) × All IsRow (rows_of k.table) × AreLengths k.lengths k.table × IfSome none (λ s. s.items ≡ flat_map row (rows_of k.table)) in
     let rows = rows_of c.args.table in
     let t = c.shrink.new.self in
     let columns = c.shrink.ensures rows c.requires.columns in
@@ -77,7 +79,7 @@ invariant_of-result c =
     let all : slice_range (rows_of t) 0 c.len.result ≡ rows_of t =
     ap (λ n. take n (rows_of t)) whole ∙ take_all c.len.result (rows_of t) (omega (arith, amounts, c.len.ensures)) in
     let len : c.of_rows-encoded_len.result ≡ length (flat_map row (rows_of t)) = c.of_rows-encoded_len.ensures ∙ ap (λ (rs : List Charge). length (flat_map row rs)) all in
-    subst IsKept (sym (kept c)) (omega (arith, size, c.requires.some), again, c.in_ok-by_hour.ensures (rows_of t) (c.as_slice.ensures.value ∙ again.starts), c.in_ok-by_sku.ensures (rows_of t) (c.in_ok-by_hour.ensures (rows_of t) (c.as_slice.ensures.value ∙ again.starts)) (c.as_slice-2.ensures.value ∙ skus_are t (rows_of t) again), len, c.in_ok-lengths.ensures.valid, c.in_ok-lengths.ensures.lengths)
+    subst IsKept (sym (kept c)) (omega (arith, size, c.requires.some), again, c.in_ok-by_hour.ensures (rows_of t) (c.as_slice.ensures.value ∙ again.starts), c.in_ok-by_sku.ensures (rows_of t) (c.in_ok-by_hour.ensures (rows_of t) (c.as_slice.ensures.value ∙ again.starts)) (c.as_slice-2.ensures.value ∙ skus_are t (rows_of t) again), len, c.in_ok-lengths.ensures.valid, c.in_ok-lengths.ensures.lengths, tt)
 
 pub returns : goal.returns
 returns c =

@@ -1,26 +1,19 @@
-use Rattle.std.proofs.Common.{◌≡◌, ◌∙◌, ◌+◌, ◌++◌, ◌∷◌, [], ℕ, List, Some, Vec, length, map, take, slice_get, All, ap, subst, sym, arith}
-use Rattle.std.specs.Prelude.{IsUtf8}
+use Rattle.std.proofs.Common.{◌≡◌, ◌∙◌, ◌++◌, ◌∷◌, [], ℕ, List, Some, Vec, length, map, take, slice_get, ap, subst, sym, arith}
 use Rattle.std.specs.declared.alloc.Global.{Global}
 use Rattle.std.specs.List.{flat_map}
-use Rattle.fw_bytes.specs.Spelling.{number32}
 use Rattle.fw_charge.specs.Charge.{Charge}
-use Rattle.fw_charge.specs.Spelling.{row, tags, IsRow}
+use Rattle.fw_charge.specs.Spelling.{row, tags}
 use Rattle.fw_columns.proofs.KeptFacts.{known_spelled, last_bytes, list_of_row, spelled_next}
 use Rattle.fw_row_table.specs.Lists.{lists_of, tag_lists, tag_places}
 use Rattle.fw_row_table.specs.Table.{tags_of}
 use Rattle.fw_row_table.specs.Texts.{names_of}
-use Rattle.fw_row_table.proofs.SpelledFacts.{tags_are_text}
-use Rattle.fw_fields.proofs.Written.{written_more, all_more}
-use Rattle.fw_row_bytes.proofs.writing.put_rows.Goals as goal
-use Rattle.fw_row_bytes.proofs.writing.put_rows.Goals.{then-code-len+in_ok-extend_from_slice, else-code-len+in_ok-put_tags+then-code-len-2+in_ok-spelled, else-code-len+in_ok-put_tags+else-code-len-2}
+use Rattle.fw_fields.proofs.Written.{written_more}
+use Rattle.std.proofs.lemmas.List.{take_all}
+use Rattle.fw_row_bytes.proofs.writing.put_each_row.Goals as goal
+use Rattle.fw_row_bytes.proofs.writing.put_each_row.Goals.{then-code-len+in_ok-extend_from_slice, else-code-len+in_ok-put_tags+then-code-len-2+in_ok-spelled, else-code-len+in_ok-put_tags+else-code-len-2}
 
 abbrev items : Vec ℕ Global → List ℕ
 items out = out.items
-
-pub has_spelling-requires : goal.has_spelling-requires
-has_spelling-requires c =
-    let text = subst (All IsUtf8) c.names.ensures c.names_are_text.ensures in
-    tags_are_text c.args.rows.now c.loop-place.place c.lent-one.result text c.lent-one.ensures
 
 -- behind the fields before them, the tags of a row end it
 ended : (before fields written : List ℕ) (one : Charge) → fields ++ tags one.tags ≡ before ++ row one → written ≡ fields ++ tags one.tags → written ≡ before ++ row one
@@ -42,9 +35,8 @@ loop-place-preserved c =
     let there : slice_get lists i ≡ Some list = kept.0 in
     let same : spell list ≡ tags one.tags = ap tags kept.1 in
     let more = λ (new : List ℕ) (put : new ≡ fields ++ tags one.tags).
-    written_more row c.args.out.now.items (number32 (length rows)) rows i one out new c.lent-one.ensures c.loop-place.invariant.written (ended out fields new one c.in_ok-put_untagged.ensures put) in
+    written_more row c.args.out.now.items [] rows i one out new c.lent-one.ensures c.loop-place.invariant.written (ended out fields new one c.in_ok-put_untagged.ensures put) in
     let Kept : List (List ℕ) → Type 0 = λ spelled. spelled ≡ map spell (take (length spelled) (tag_lists rows)) in
-    let are = all_more IsRow rows i one c.lent-one.ensures c.loop-place.invariant.rows c.has_spelling.ensures in
     elim c.if-code-len.branch [
       | then-code-len+in_ok-extend_from_slice w ↦
           let found = known_spelled spell (tag_lists rows) lists c.loop-place.spelled code i w.list.result.now c.loop-place.invariant.kept (omega (arith, w.if-code-len.true, c.len.ensures)) c.tag_list_code-code.ensures w.list.ensures in
@@ -52,7 +44,6 @@ loop-place-preserved c =
           let is : found.0 ≡ list = cc in
           record {
             written = ap items w.out-is ∙ more _ (w.in_ok-extend_from_slice.ensures.items ∙ ap (λ l. fields ++ l) (found.1.1 ∙ ap spell is ∙ same));
-            rows = are;
             kept = subst Kept (sym w.spelled-is) c.loop-place.invariant.kept;
           }
       | else-code-len+in_ok-put_tags+then-code-len-2+in_ok-spelled w ↦
@@ -62,14 +53,17 @@ loop-place-preserved c =
           let next : w.in_ok-spelled.spelled ≡ c.loop-place.spelled ++ spell list ∷ [] = w.in_ok-spelled.ensures ∙ ap (λ l. c.loop-place.spelled ++ l ∷ []) last in
           record {
             written = ap items w.out-is ∙ more _ put;
-            rows = are;
             kept = subst Kept (sym (w.spelled-is ∙ next)) (spelled_next spell (tag_lists rows) lists c.loop-place.spelled code i list c.loop-place.invariant.kept (omega (arith, w.if-code-len-2.true, w.len-else-code-len.ensures)) c.tag_list_code-code.ensures there);
           }
       | else-code-len+in_ok-put_tags+else-code-len-2 w ↦
           let put : w.put_tags.new.out.items ≡ fields ++ tags one.tags = w.in_ok-put_tags.ensures ∙ ap (λ ts. fields ++ tags ts) w.tags.ensures.value in
           record {
             written = ap items w.out-is ∙ more _ put;
-            rows = are;
             kept = subst Kept (sym w.spelled-is) c.loop-place.invariant.kept;
           }
     ]
+
+pub returns : goal.returns
+returns c =
+    c.loop-place.invariant.written
+    ∙ ap (λ (rs : List Charge). c.args.out.now.items ++ flat_map row rs) (take_all c.loop-place.place c.args.rows.now (omega (arith, c.loop-place-test.false, c.len-place-end.ensures.count)))
