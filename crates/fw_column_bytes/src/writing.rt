@@ -7,7 +7,7 @@ ghost use Rattle.fw_bytes.specs.Spelling.{number32, number64, signed64, listed, 
 ghost use Rattle.fw_row_table.specs.Texts.{names_of};
 ghost use Rattle.fw_column_bytes.specs.Spelling.{amounts, columns, discounts, flag, periods, quantities, tags, texts};
 
-use fw_bytes::{put_byte, put_i64, put_text, put_u32, put_u64};
+use fw_bytes::{put_byte, put_text, put_u32};
 use fw_columns::Columns;
 use fw_row_table::Packed;
 use std::alloc::AllocError;
@@ -16,8 +16,11 @@ use std::alloc::AllocError;
 fn put_signed(out: &mut Vec<u8>, column: &[i64]) -> Result<(), AllocError>
     ensures { OnOk result (out.new.items ≡ out.old.items ++ flat_map signed64 column.now) }
 {
-    for number in column {
-        put_i64(out, *number)?;
+    let start = out.len();
+    out.resize(start + 8 * column.len(), 0)?;
+    for index in 0..column.len() {
+        let at = start + 8 * index;
+        out[at..at + 8].copy_from_slice(&column[index].to_le_bytes());
     }
     Ok(())
 }
@@ -26,8 +29,11 @@ fn put_signed(out: &mut Vec<u8>, column: &[i64]) -> Result<(), AllocError>
 fn put_wide(out: &mut Vec<u8>, column: &[u64]) -> Result<(), AllocError>
     ensures { OnOk result (out.new.items ≡ out.old.items ++ flat_map number64 column.now) }
 {
-    for number in column {
-        put_u64(out, *number)?;
+    let start = out.len();
+    out.resize(start + 8 * column.len(), 0)?;
+    for index in 0..column.len() {
+        let at = start + 8 * index;
+        out[at..at + 8].copy_from_slice(&column[index].to_le_bytes());
     }
     Ok(())
 }
@@ -36,8 +42,11 @@ fn put_wide(out: &mut Vec<u8>, column: &[u64]) -> Result<(), AllocError>
 fn put_codes(out: &mut Vec<u8>, column: &[u32]) -> Result<(), AllocError>
     ensures { OnOk result (out.new.items ≡ out.old.items ++ flat_map number32 column.now) }
 {
-    for code in column {
-        put_u32(out, *code)?;
+    let start = out.len();
+    out.resize(start + 4 * column.len(), 0)?;
+    for index in 0..column.len() {
+        let at = start + 4 * index;
+        out[at..at + 4].copy_from_slice(&column[index].to_le_bytes());
     }
     Ok(())
 }
