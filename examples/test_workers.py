@@ -13,7 +13,7 @@ import sys
 
 import expected
 from import_tests import Case, export_of_chance, header_of_chance
-from program_tests import HERE, run_tests
+from program_tests import HERE, program, run_tests
 from test_dialects import in_dialect, spelled
 
 NUMBERS = (2, 3, 8, 64)
@@ -99,6 +99,20 @@ class Workers(Case):
             for name in ("one", *map(str, NUMBERS)):
                 for side in ("left", "right"):
                     (self.top / name / side).unlink(missing_ok=True)
+
+    def test_a_fault_while_standard_input_stays_open(self):
+        lines = self.long.splitlines(keepends=True)
+        lines[1] = lines[1].replace(b"USD", b"EUR")
+        for workers, parts in ((1, 0), (2, 2)):
+            # What is read before the first part is taken, and a little that the pipe holds: two MiB at a time, behind the parts that are cut.
+            sent = len(b"".join(lines[: 1 + 4_096 * parts])) + (2 << 20) + 10_000
+            words = [program(), "import", "--dir", "open", "--create", "--origin", "a", "--workers", str(workers), "-"]
+            with subprocess.Popen(words, stdin=subprocess.PIPE, stderr=subprocess.PIPE, cwd=self.top) as run:
+                run.stdin.write(b"".join(lines)[:sent])
+                run.stdin.flush()
+                # The pipe is closed behind this alone.
+                self.assertEqual(run.wait(timeout=60), 1, workers)
+                self.assertIn(b"standard input:2: record 1, BillingCurrency", run.stderr.read(), workers)
 
     def test_an_end_within_quotes(self):
         self.write("cut.csv", self.long + b'"' + b"x" * (5 << 20))

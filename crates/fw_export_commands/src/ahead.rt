@@ -164,12 +164,12 @@ impl<'i, 'a, T: Threads> Ahead<'i, 'a, T> {
         }
     }
 
-    /// Waits for the workers to end what they read and cut.
+    /// Waits for the workers to end what they read. The thread that cuts isn't waited for: more of standard input may never come.
     pub(crate) fn stop(&mut self) {
         for _ in 0..self.begun.len() {
             let _ = self.next();
         }
-        let _ = self.cut_behind();
+        self.behind = None;
     }
 
     // The part behind those that were seen, if it was cut or is being cut.
