@@ -1,8 +1,8 @@
 -- The rows that have the columns which were read.
 use Rattle.std.proofs.Common.{◌≡◌, ◌↔◌, ◌≤◌, ◌*◌, ℕ, All, zero, suc, Bool, true, false, List, [], ◌∷◌, length, map, Option, Some, None, refl, sym, ap, subst, ◌∙◌, arith}
-use Rattle.std.specs.Prelude.{◌==◌, ℤ, pos, nat_abs, nat_lt, is_some, string_bytes, IfNone, IfSome, IsNone}
+use Rattle.std.specs.Prelude.{◌==◌, ℤ, pos, nat_abs, is_some, string_bytes, IfNone, IfSome, IsNone}
 use Rattle.std.specs.List.{AllByRecursion, IsDistinct, flat_map}
-use Rattle.std.proofs.lemmas.Bool.{ltb-false, leb-true}
+use Rattle.std.proofs.lemmas.Bool.{leb-true}
 use Rattle.std.proofs.lemmas.List.{length-map}
 use Rattle.std.proofs.lemmas.List.Elements.{All-map, All-weaker}
 use Rattle.std.proofs.lemmas.Simd.{map-map}
@@ -28,7 +28,7 @@ use Rattle.fw_column_bytes.specs.Rows.{AreColumnsOf, AreReadIn, HaveNoRows}
 use Rattle.fw_column_bytes.specs.Spelling.{flag, layout}
 use Rattle.fw_column_bytes.specs.declared.reading.PartsRead.{PartsRead}
 use Rattle.fw_column_bytes.proofs.ColumnsAgain.{names_few}
-use Rattle.fw_column_bytes.proofs.RowsRead.{within_is}
+use Rattle.fw_column_bytes.proofs.RowsRead.{at_most}
 
 -- ---- numbers and flags as rows keep them, and as they are in bytes
 
@@ -42,7 +42,7 @@ flag_back zero h = refl
 flag_back (suc zero) h = refl
 flag_back (suc (suc b)) h =
     let n = suc (suc b) in
-    let few : n ≤ 1 = ltb-false _ _ (within_is (nat_lt n 0) (nat_lt 1 n) h.1).1 in
+    let few : n ≤ 1 = at_most 0 1 n h.1 in
     absurd (omega (arith, few))
 
 flags_back : (xs : List ℕ) → AllByRecursion (FitsByte 0 1) xs → map flag (map (λ b. b == 1) xs) ≡ xs

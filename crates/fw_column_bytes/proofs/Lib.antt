@@ -8,3 +8,4 @@ pub mod ColumnFacts
 pub mod ColumnsTaken
 pub mod ColumnsAgain
 pub mod DirectFacts
+mod InRange

@@ -6,7 +6,7 @@ use Rattle.std.proofs.lemmas.Bool.{and_parts, ltb-true, ltb-false, leb-true}
 use Rattle.std.proofs.lemmas.List.{length-map}
 use Rattle.std.proofs.lemmas.List.FromFn.{length-range_with_len}
 use Rattle.std.proofs.lemmas.List.Elements.{All-from_recursion, All-nil, All-cons}
-use Rattle.fw_bytes.specs.Spelling.{FitsOptional}
+use Rattle.fw_bytes.specs.Spelling.{FitsOptional, within}
 use Rattle.fw_bytes.proofs.Laws.{list_fits, list_parts}
 use Rattle.fw_charge.specs.Spelling.{FitsNanos, FitsShortText, FitsTagText, FitsTag, FitsTags, IsRow, is_short}
 use Rattle.fw_charge.specs.Tags.{most_tags}
@@ -35,7 +35,7 @@ module _ (names : List Text) (fit : All FitsTagText names) where
       ((fit place [] (ltb-true _ _ p.0)).0, p.1)
 
   -- the text at a place
-  place_below : (place : ℕ) → FitsPlace names place → place < length names
+  pub place_below : (place : ℕ) → FitsPlace names place → place < length names
   place_below place h = ltb-true _ _ (subst (λ (n : ℕ). is_place_code names n ≡ true) (one_more place) h.1)
 
   tag_text_fits : (place : ℕ) → FitsPlace names place → FitsTagText (text_at names place)
@@ -90,22 +90,23 @@ module _ (p : Parts) (h : FitParts p) where
     pub row_kept : fields_agree (fields_at_place p i) ≡ true → IsRow (row_from (fields_at_place p i))
     row_kept e = is_row_from (fields_at_place p i) fields_fit e
 
--- ---- how many rows there are
+-- ---- numbers within their limits, as that of rows
 
 pub within_is : (low high : Bool) → cond low false (cond high false true) ≡ true → (low ≡ false) × (high ≡ false)
 within_is true high e = absurd cc
 within_is false true e = absurd cc
 within_is false false e = (refl, refl)
 
+pub at_most : (least most n : ℕ) → within least most n ≡ true → n ≤ most
+at_most least most n h = ltb-false _ _ (within_is (nat_lt n least) (nat_lt most n) h).1
+
 pub count_within : (p : Parts) → FitParts p → (1 ≤ p.0.1.0) × (p.0.1.0 ≤ most_column_rows)
 count_within p h =
     let w = within_is (nat_lt p.0.1.0 1) (nat_lt most_column_rows p.0.1.0) h.0.1.0.1 in
-    (ltb-false _ _ w.0, ltb-false _ _ w.1)
+    (ltb-false _ _ w.0, at_most 1 most_column_rows p.0.1.0 h.0.1.0.1)
 
 pub front_within : (f : Front) → FitFront f → f.1.0 ≤ most_column_rows
-front_within f h =
-    let w = within_is (nat_lt f.1.0 1) (nat_lt most_column_rows f.1.0) h.1.0.1 in
-    ltb-false _ _ w.1
+front_within f h = at_most 1 most_column_rows f.1.0 h.1.0.1
 
 pub made_count : (p : Parts) (n : ℕ) → length (map row_from (map (fields_at_place p) (range_with_len 0 n))) ≡ n
 made_count p n = length-map (map (fields_at_place p) (range_with_len 0 n)) row_from ∙ (length-map (range_with_len 0 n) (fields_at_place p) ∙ length-range_with_len 0 n)

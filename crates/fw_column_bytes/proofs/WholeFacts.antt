@@ -1,8 +1,8 @@
 -- A column whose bytes are all there, read in one pass.
-use Rattle.std.proofs.Common.{◌≡◌, ℕ, ◌+◌, ◌-◌, ◌*◌, ◌<◌, ◌≤◌, Bool, true, false, List, [], ◌∷◌, length, get_or, take, drop, set, Result, Ok, Err, refl, sym, ap, ◌∙◌, arith}
+use Rattle.std.proofs.Common.{◌≡◌, ℕ, ◌+◌, ◌-◌, ◌*◌, ◌<◌, ◌≤◌, Bool, true, List, [], ◌∷◌, length, get_or, take, drop, set, Result, Ok, Err, refl, sym, ap, ◌∙◌, arith}
 use Rattle.std.specs.Prelude.{◌&&◌, ℤ, nat_abs, nat_le}
 use Rattle.std.specs.Int.{w32, w64, cast_signed}
-use Rattle.std.proofs.lemmas.Bool.{le-ltb, leb-true}
+use Rattle.std.proofs.lemmas.Bool.{and_parts, le-ltb, leb-true}
 use Rattle.std.proofs.lemmas.List.{drop_more, length-set, take_all, take_more, take_more_set}
 use Rattle.fw_bytes.specs.Reading.{number_at, signed64_at, code_at, checked, times}
 use Rattle.fw_bytes.proofs.Loop.{with_front, goes_on, is_done}
@@ -16,10 +16,6 @@ use Rattle.fw_column_bytes.specs.Reading.{byte_at, is_text_code, text_code_at}
 pub record AreRight {A : Type 0} (read : List ℕ → Result (A × List ℕ) ℕ) (width : ℕ) (column : List A) (is_right : Bool) (place count : ℕ) (bytes : List ℕ) : Type 0 where
   pub long : length column ≡ count
   pub so_far : is_right ≡ true → with_front (take place column) (times read (count - place) (drop (width * place) bytes)) ≡ times read count bytes
-
-both_are : (x y : Bool) → (x && y) ≡ true → (x ≡ true) × (y ≡ true)
-both_are true y e = (refl, e)
-both_are false y e = absurd cc
 
 pub no_front : {A : Type 0} (r : Result (List A × List ℕ) ℕ) → with_front [] r ≡ r
 no_front (Ok x) = refl
@@ -37,7 +33,7 @@ one_more read width column is_right ok place count bytes x after are lt is one =
   long = length-set column place x ∙ are.long;
   so_far =
       λ e.
-      let two = both_are is_right ok e in
+      let two = and_parts is_right ok e in
       let so_far = are.so_far two.0 in
       let next = goes_on read (take place column) count place (drop (width * place) bytes) x after (times read count bytes) lt (one two.1) so_far in
       (λ j. with_front (take_more_set column place x (omega (arith, lt, are.long)) j) (times read (count - (place + 1)) (sym is j))) ∙ next;
@@ -52,7 +48,7 @@ all_read {A = A} read width column is_right place count bytes are end e =
 reads_byte : (least most byte : ℕ) (after : List ℕ) → (nat_le least byte && nat_le byte most) ≡ true → byte_at least most (byte ∷ after) ≡ Ok (byte, after)
 unfolding byte_at checked code_at
 reads_byte least most byte after ok =
-    let two = both_are (nat_le least byte) (nat_le byte most) ok in
+    let two = and_parts (nat_le least byte) (nat_le byte most) ok in
     rw (le-ltb byte least (leb-true least byte two.0), le-ltb most byte (leb-true byte most two.1)) refl
 
 -- bytes so far, each within the limits if all so far are
@@ -69,7 +65,7 @@ one_more_byte least most is_right place count bytes are lt long = record {
       λ e.
       let byte = get_or bytes place 0 in
       let read = byte_at least most in
-      let two = both_are is_right (nat_le least byte && nat_le byte most) e in
+      let two = and_parts is_right (nat_le least byte && nat_le byte most) e in
       let here : drop place bytes ≡ byte ∷ drop (place + 1) bytes = drop_more bytes place 0 (omega (arith, lt, long)) in
       let one : read (drop place bytes) ≡ Ok (byte, drop (place + 1) bytes) = ap read here ∙ reads_byte least most byte (drop (place + 1) bytes) two.1 in
       let next = goes_on read (take place bytes) count place (drop place bytes) byte (drop (place + 1) bytes) (times read count bytes) lt one (are.so_far two.0) in

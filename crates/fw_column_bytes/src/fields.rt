@@ -107,7 +107,7 @@ pub fn bytes_after(
 {
     let len = count as usize;
     if len <= bytes.len() {
-        let (column, is_right) = bytes_in(alloc, least, most, count as usize, bytes)?;
+        let (column, is_right) = bytes_in(alloc, least, most, len, bytes)?;
         if is_right {
             let (_, rest) = bytes.split_at(len);
             return Ok((column, rest));

@@ -1,23 +1,23 @@
 -- Columns that were checked are the columns of their rows.
 use Rattle.std.proofs.Common.{◌≡◌, ℕ, zero, suc, ◌+◌, ◌*◌, ◌/◌, ◌<◌, ◌≤◌, ℤ, Bool, true, false, List, [], ◌∷◌, ◌++◌, length, get_or, map, Option, Some, None, refl, sym, ap, subst, ◌∙◌, arith, length-append}
-use Rattle.std.specs.Prelude.{All, option_map, option_to_list, is_some, pos, nat_abs}
+use Rattle.std.specs.Prelude.{All, option_map, option_to_list, is_some, pos}
 use Rattle.std.specs.List.{flat_map, range_with_len}
-use Rattle.std.proofs.lemmas.List.{get_or-map, length-map, get_or_default}
+use Rattle.std.proofs.lemmas.List.{get_or-map, length-map}
 use Rattle.std.proofs.lemmas.List.Elements.{All-head, All-tail, All-map}
 use Rattle.std.proofs.lemmas.List.Folds.{flat_map-map}
 use Rattle.std.proofs.lemmas.List.FromFn.{fill_by_all, length-range_with_len, get_or-range_with_len, length-map-range_with_len, get_or-map-range_with_len}
 use Rattle.std.proofs.lemmas.Simd.{map-map}
-use Rattle.fw_money.specs.Amount.{most_nanos}
 use Rattle.fw_charge.specs.Tags.{TagText, most_tags}
 use Rattle.fw_charge.specs.Charge.{Charge, IsCharge}
-use Rattle.fw_charge.specs.Codes.{category_code, class_code}
+use Rattle.fw_charge.specs.Codes.{category_code, class_code, kind_code, kind_of, status_code, status_of}
 use Rattle.fw_row_table.specs.declared.table.Table.{Table}
 use Rattle.fw_row_table.specs.Names.{Text, AreDistinct, place_of, with_text}
 use Rattle.fw_row_table.specs.Texts.{with_texts, texts_of_tags, texts_of, names_of, most_texts}
 use Rattle.fw_row_table.specs.Lists.{tag_places, lists_of}
 use Rattle.fw_row_table.specs.Codes.{text_code}
 use Rattle.fw_row_table.specs.Table.{AreColumns, id_kept, kind_kept, status_kept, quantity_kept, text_at, text_of, discount_of, quantity_of, tag_of, tags_of, list_at, charge_at, rows_of, most_column_rows}
-use Rattle.fw_columns.specs.Parts.{AreNumbered, lists_there, HaveLength, IsTagList, HaveRows, texts_there}
+use Rattle.fw_columns.specs.Parts.{AreNumbered, lists_there, HaveLength, HasFieldsInRange, ArePlacesOfTags, IsShortCode, IsTagList, HaveRows, texts_there}
+use Rattle.fw_columns.proofs.PartFacts.{discount_rules, kind_back, status_back}
 use Rattle.fw_row_table.proofs.NameFacts.{place_at}
 use Rattle.fw_row_table.proofs.TextFacts.{AreKnown, AreKnown-seen, with_text_adds_one}
 use Rattle.fw_row_table.proofs.ListFacts.{places-within}
@@ -54,7 +54,7 @@ places_back names distinct (p ∷ ps) h =
     let Within : ℕ → Type 0 = λ place. place < length names in
     rw (place_at names p [] distinct (All-head Within p ps h), places_back names distinct ps (All-tail Within p ps h)) refl
 
-pub list_back : (names : List Text) → AreDistinct names → (list : List ℕ) → IsTagList names list → tag_places names (tags_of names list) ≡ list
+pub list_back : (names : List Text) → AreDistinct names → (list : List ℕ) → ArePlacesOfTags names list → tag_places names (tags_of names list) ≡ list
 unfolding tag_places
 list_back names distinct list h = ap (map (place_of names)) (texts_even names list h.even) ∙ places_back names distinct list h.within
 
@@ -123,34 +123,52 @@ texts_everywhere t n each =
     sym (flat_map-map all (texts_there t) places) ∙ (ap (flat_map all) (sym same) ∙ (flat_map-map all made places ∙ sym (flat_map-map texts_of (charge_at t) places)))
 
 -- ---- all columns
-module _ (t : Table) (n : ℕ) (size : HaveLength t n) (numbered : AreNumbered t.lists t.tags.items (lists_there t.lists t.tags.items)) (lists : All (IsTagList t.names) t.lists) (have : HaveRows t n)
-    (distinct : AreDistinct t.names) where
+module _ (t : Table) (n : ℕ) (fields : HasFieldsInRange t) (size : HaveLength t n) (numbered : AreNumbered t.lists t.tags.items (lists_there t.lists t.tags.items))
+    (lists : All (IsTagList t.names) t.lists) (have : HaveRows t n) (distinct : AreDistinct t.names) where
   abbrev rows : List Charge
   rows = map (charge_at t) (range_with_len 0 n)
 
   column : {A : Type 0} (f : Charge → A) (xs : List A) (d : A) → length xs ≡ n → ((i : ℕ) → i < n → get_or xs i d ≡ f (charge_at t i)) → xs ≡ map f rows
   column f xs d count each = fill_by_all (λ i. f (charge_at t i)) xs n d count each ∙ sym (map-map f (charge_at t) (range_with_len 0 n))
 
-  all_within : {A : Type 0} (P : A → Type 0) (xs : List A) (d : A) → length xs ≡ n → ((i : ℕ) → i < n → P (get_or xs i d)) → All P xs
-  all_within P xs d count each = λ k e lt. subst P (get_or_default xs k d e lt) (each k (omega (arith, count, lt)))
-
   module _ (i : ℕ) (lt : i < n) where
-    list_kept : IsTagList t.names (list_at t i)
+    list_within : get_or t.tags.items i 0 < length t.lists
+    list_within = lists_within t.lists t.tags.items (lists_there t.lists t.tags.items) numbered i 0 (omega (arith, size.tags, lt))
+
+    list_kept : ArePlacesOfTags t.names (list_at t i)
     unfolding list_at
-    list_kept = lists (get_or t.tags.items i 0) [] (lists_within t.lists t.tags.items (lists_there t.lists t.tags.items) numbered i 0 (omega (arith, size.tags, lt)))
+    list_kept = fields.lists (get_or t.tags.items i 0) [] list_within
+
+    id_short : IsShortCode t.names (get_or t.discounts.items i 0)
+    id_short = fields.discounts i 0 (omega (arith, size.discounts, lt))
+
+    unit_short : IsShortCode t.names (get_or t.units.items i 0)
+    unit_short = fields.units i 0 (omega (arith, size.units, lt))
+
+    sku_short : IsShortCode t.names (get_or t.skus.items i 0)
+    sku_short = fields.skus i 0 (omega (arith, size.skus, lt))
+
+    account_short : IsShortCode t.names (get_or t.sub_accounts.items i 0)
+    account_short = fields.sub_accounts i 0 (omega (arith, size.sub_accounts, lt))
+
+    kind_code_kept : kind_code (kind_of (get_or t.kinds.items i 0)) ≡ get_or t.kinds.items i 0
+    kind_code_kept = fields.kinds i 0 (omega (arith, size.kinds, lt))
+
+    status_code_kept : status_code (status_of (get_or t.statuses.items i 0)) ≡ get_or t.statuses.items i 0
+    status_code_kept = fields.statuses i 0 (omega (arith, size.statuses, lt))
 
     is_charge : IsCharge (charge_at t i)
-    unfolding charge_at
+    unfolding charge_at list_at
     is_charge =
-        let v = have.values i lt in
+        let agree = have.agree i lt in
         record {
-          ordered = v.period.ordered;
-          dated = v.period.dated;
-          discount = v.discount.rules;
-          unit = v.texts.unit.short;
-          sku = v.texts.sku.short;
-          sub_account = v.texts.sub_account.short;
-          tags = list_kept.tags;
+          ordered = agree.period;
+          dated = fields.ends i 0 (omega (arith, size.ends, lt));
+          discount = discount_rules t.names _ _ _ _ agree.discount id_short status_code_kept;
+          unit = unit_short.short;
+          sku = sku_short.short;
+          sub_account = account_short.short;
+          tags = lists (get_or t.tags.items i 0) [] list_within;
         }
 
   charges : All IsCharge rows
@@ -195,33 +213,34 @@ module _ (t : Table) (n : ℕ) (size : HaveLength t n) (numbered : AreNumbered t
         lists_few = omega (arith, count_rows, lists_few);
         billed = column (λ c. c.billed) t.billed.items (pos 0) size.billed (λ i lt. refl);
         effective = column (λ c. c.effective) t.effective.items (pos 0) size.effective (λ i lt. refl);
-        billed_range = all_within (λ z. nat_abs z ≤ most_nanos) t.billed.items (pos 0) size.billed (λ i lt. (have.values i lt).billed);
-        effective_range = all_within (λ z. nat_abs z ≤ most_nanos) t.effective.items (pos 0) size.effective (λ i lt. (have.values i lt).effective);
-        categories = column (λ c. category_code c.category) t.categories.items 0 size.categories (λ i lt. sym (have.values i lt).category);
-        classes = column (λ c. class_code c.is_correction) t.classes.items 0 size.classes (λ i lt. sym (have.values i lt).class);
-        starts = column (λ c. pos c.start) t.starts.items (pos 0) size.starts (λ i lt. sym (have.values i lt).period.kept);
+        billed_range = fields.billed;
+        effective_range = fields.effective;
+        categories = column (λ c. category_code c.category) t.categories.items 0 size.categories (λ i lt. sym (fields.categories i 0 (omega (arith, size.categories, lt))));
+        classes = column (λ c. class_code c.is_correction) t.classes.items 0 size.classes (λ i lt. sym (fields.classes i 0 (omega (arith, size.classes, lt))));
+        starts = column (λ c. pos c.start) t.starts.items (pos 0) size.starts (λ i lt. sym (fields.starts i (pos 0) (omega (arith, size.starts, lt))));
         ends = column (λ c. c.end) t.ends.items 0 size.ends (λ i lt. refl);
         discounts =
             column (λ c. id_kept names c.discount) t.discounts.items 0 size.discounts
             (λ i lt.
             sym (ap (text_code names) (id_of (text_of names (get_or t.discounts.items i 0)) (get_or t.kinds.items i 0) (get_or t.statuses.items i 0))
-            ∙ code_back names distinct (get_or t.discounts.items i 0) (have.values i lt).discount.within));
-        kinds = column (λ c. kind_kept c.discount) t.kinds.items 0 size.kinds (λ i lt. sym (have.values i lt).discount.kind);
-        statuses = column (λ c. status_kept c.discount) t.statuses.items 0 size.statuses (λ i lt. sym (have.values i lt).discount.status);
-        quantities = column (λ c. quantity_kept c.quantity) t.quantities.items (pos 0) size.quantities (λ i lt. sym (have.values i lt).quantity);
-        quantities_range = all_within (λ z. nat_abs z ≤ most_nanos) t.quantities.items (pos 0) size.quantities (λ i lt. (have.values i lt).count);
+            ∙ code_back names distinct (get_or t.discounts.items i 0) (id_short i lt).within));
+        kinds = column (λ c. kind_kept c.discount) t.kinds.items 0 size.kinds (λ i lt. sym (kind_back names _ _ _ _ (have.agree i lt).discount (kind_code_kept i lt)));
+        statuses = column (λ c. status_kept c.discount) t.statuses.items 0 size.statuses (λ i lt. sym (status_back names _ _ _ _ (have.agree i lt).discount (status_code_kept i lt)));
+        quantities = column (λ c. quantity_kept c.quantity) t.quantities.items (pos 0) size.quantities (λ i lt. sym (have.agree i lt).quantity);
+        quantities_range = fields.quantities;
         has_quantity = column (λ c. is_some c.quantity) t.has_quantity.items false size.has_quantity (λ i lt. sym (there_of (get_or t.has_quantity.items i false) (get_or t.quantities.items i (pos 0))));
-        units = column (λ c. text_code names c.unit) t.units.items 0 size.units (λ i lt. sym (code_back names distinct (get_or t.units.items i 0) (have.values i lt).texts.unit.within));
-        skus = column (λ c. text_code names c.sku) t.skus.items 0 size.skus (λ i lt. sym (code_back names distinct (get_or t.skus.items i 0) (have.values i lt).texts.sku.within));
-        sub_accounts = column (λ c. text_code names c.sub_account) t.sub_accounts.items 0 size.sub_accounts (λ i lt. sym (code_back names distinct (get_or t.sub_accounts.items i 0) (have.values i lt).texts.sub_account.within));
+        units = column (λ c. text_code names c.unit) t.units.items 0 size.units (λ i lt. sym (code_back names distinct (get_or t.units.items i 0) (unit_short i lt).within));
+        skus = column (λ c. text_code names c.sku) t.skus.items 0 size.skus (λ i lt. sym (code_back names distinct (get_or t.skus.items i 0) (sku_short i lt).within));
+        sub_accounts = column (λ c. text_code names c.sub_account) t.sub_accounts.items 0 size.sub_accounts (λ i lt. sym (code_back names distinct (get_or t.sub_accounts.items i 0) (account_short i lt).within));
         tags = numbered.places ∙ ap (map (place_of t.lists)) lists_are;
       }
 
-pub some_rows : (t : Table) → (length t.billed.items ≡ 0 → ⊥) → 0 < length (rows_of t)
+pub some_rows : (t : Table) → 0 < length t.billed.items → 0 < length (rows_of t)
 unfolding rows_of
 some_rows t h = let count : length (map (charge_at t) (range_with_len 0 (length t.billed.items))) ≡ length t.billed.items = length-map-range_with_len (charge_at t) 0 (length t.billed.items) in omega (arith, count, h)
 
-pub are_columns_of_rows : (t : Table) → HaveLength t (length t.billed.items) → AreNumbered t.lists t.tags.items (lists_there t.lists t.tags.items) → All (IsTagList t.names) t.lists → HaveRows t (length t.billed.items)
-    → AreDistinct t.names → length t.billed.items ≤ most_column_rows → length t.lists ≤ length t.tags.items → AreColumns t (rows_of t)
+pub are_columns_of_rows : (t : Table) → HasFieldsInRange t → AreNumbered t.lists t.tags.items (lists_there t.lists t.tags.items) → All (IsTagList t.names) t.lists → HaveRows t (length t.billed.items)
+    → AreDistinct t.names → length t.lists ≤ length t.tags.items → AreColumns t (rows_of t)
 unfolding rows_of
-are_columns_of_rows t size numbered lists have distinct few fewer = parts_are_columns t (length t.billed.items) size numbered lists have distinct few (omega (arith, fewer, size.tags))
+are_columns_of_rows t fields numbered lists have distinct fewer =
+    parts_are_columns t (length t.billed.items) fields fields.sizes numbered lists have distinct fields.few (omega (arith, fewer, fields.sizes.tags))

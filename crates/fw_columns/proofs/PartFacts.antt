@@ -1,6 +1,6 @@
 -- Columns that were put together elsewhere and were checked are those of rows.
 use Rattle.std.proofs.Common.{◌≡◌, ℕ, zero, suc, ◌+◌, ◌-◌, ◌<◌, ◌≤◌, ℤ, Bool, true, false, List, [], ◌∷◌, ◌++◌, length, get_or, map, take, Option, Some, None, refl, sym, ap, subst, ◌∙◌, arith, append_assoc, length-append, true≢false, eqb, ltb, ◌≢◌, ◌⊎◌, inl, inr}
-use Rattle.std.specs.Prelude.{◌↔◌, All, slice_get, option_to_list, is_some, pos, negsuc, nat_abs, IfNone, IfSome}
+use Rattle.std.specs.Prelude.{◌↔◌, ◌/◌, All, option_to_list, pos, negsuc, nat_abs, IfNone, IfSome, IsSome}
 use Rattle.std.specs.List.{IsDistinct, list_any, position_or_len, flat_map, range_with_len}
 use Rattle.std.specs.Str.{bytes_eq}
 use Rattle.std.specs.Cmp.Lexicographic.{bytes_decides}
@@ -12,16 +12,17 @@ use Rattle.std.proofs.lemmas.List.{append-nil}
 use Rattle.std.proofs.lemmas.List.Folds.{flat_map-map}
 use Rattle.std.proofs.lemmas.List.FromFn.{map-range_with_len_more}
 use Rattle.std.proofs.lemmas.Grind.{flat_map-append}
-use Rattle.fw_charge.specs.Tags.{IsTagSized, longest_tag_text}
-use Rattle.std.proofs.lemmas.Option.{get_or_from_slice_get}
-use Rattle.fw_charge.specs.Charge.{IsShortText}
-use Rattle.fw_charge.specs.Codes.{category_code, category_of, class_code, class_of, kind_code, kind_of, status_code, status_of}
+use Rattle.fw_bytes.specs.Order.{rise}
+use Rattle.fw_bytes.proofs.Rising.{sorted_from_rise}
+use Rattle.fw_charge.specs.Tags.{IsTagSized, longest_tag_text, most_tags}
+use Rattle.fw_row_table.proofs.LendingFacts.{tags_counted}
+use Rattle.fw_charge.specs.Charge.{IsDiscountOf}
+use Rattle.fw_charge.specs.Codes.{kind_code, kind_of, status_code, status_of}
 use Rattle.fw_charge.specs.declared.category.Category.{Category}
-use Rattle.fw_charge.specs.declared.category.Category.TheVariants as category
 use Rattle.fw_row_table.specs.Names.{Text, AreDistinct, place_of, with_text}
 use Rattle.fw_row_table.specs.Texts.{with_texts}
-use Rattle.fw_row_table.specs.Table.{category_at, class_at, kind_at, kind_kept, status_kept, quantity_kept, text_at, text_of, discount_of, quantity_of, tag_of, tags_of}
-use Rattle.fw_columns.specs.Parts.{AreListsSeen, IsStatusOf, IsShortCode, IsDiscountKept, HaveSeen, AreOutOfTurn, AreNumbered, lists_there}
+use Rattle.fw_row_table.specs.Table.{kind_at, kind_kept, status_kept, quantity_kept, text_at, text_of, discount_of, quantity_of, tag_of, tags_of}
+use Rattle.fw_columns.specs.Parts.{AreDiscountCodes, AreListsSeen, ArePlacesOfTags, IsShortCode, IsTagList, HaveSeen, AreOutOfTurn, AreNumbered, lists_there}
 use Rattle.fw_row_table.proofs.NameFacts.{at_its_end, is_new, place-kept, place_at, stays_distinct, text_at_place}
 use Rattle.fw_row_table.proofs.TextFacts.{IsKnown, AreKnown, AreKnown-seen, known_adds_nothing, with_texts-append, with_texts-grows}
 use Rattle.fw_row_table.proofs.ListFacts.{listed_more}
@@ -37,73 +38,7 @@ no f = (λ e. absurd cc, λ h. absurd (f h))
 pub refused : {A : Type 0} (b : Bool) → b ≡ false → (A → b ≡ true) → (false ≡ true) ↔ A
 refused b not_ all = no (λ a. true≢false (sym (all a) ∙ not_))
 
--- ---- codes that are there
-
-pub category_kept : (code : ℕ) → is_some (category_of code) ≡ true → category_code (category_at code) ≡ code
-unfolding category_code
-category_kept zero h = absurd cc
-category_kept (suc zero) h = refl
-category_kept (suc (suc zero)) h = refl
-category_kept (suc (suc (suc zero))) h = refl
-category_kept (suc (suc (suc (suc zero)))) h = refl
-category_kept (suc (suc (suc (suc (suc zero))))) h = refl
-category_kept (suc (suc (suc (suc (suc (suc b)))))) h = absurd cc
-
-pub category_there : (code : ℕ) → category_code (category_at code) ≡ code → is_some (category_of code) ≡ true
-unfolding category_code
-category_there zero h = absurd cc
-category_there (suc zero) h = refl
-category_there (suc (suc zero)) h = refl
-category_there (suc (suc (suc zero))) h = refl
-category_there (suc (suc (suc (suc zero)))) h = refl
-category_there (suc (suc (suc (suc (suc zero))))) h = refl
-category_there (suc (suc (suc (suc (suc (suc b)))))) h = absurd cc
-
-pub class_kept : (code : ℕ) → is_some (class_of code) ≡ true → class_code (class_at code) ≡ code
-unfolding class_code
-class_kept zero h = refl
-class_kept (suc zero) h = refl
-class_kept (suc (suc b)) h = absurd cc
-
-pub class_there : (code : ℕ) → class_code (class_at code) ≡ code → is_some (class_of code) ≡ true
-unfolding class_code
-class_there zero h = refl
-class_there (suc zero) h = refl
-class_there (suc (suc b)) h = absurd cc
-
-kind_stays : (code : ℕ) → is_some (kind_of code) ≡ true → kind_code (Some (kind_at code)) ≡ code
-unfolding kind_code
-kind_stays zero h = absurd cc
-kind_stays (suc zero) h = refl
-kind_stays (suc (suc zero)) h = refl
-kind_stays (suc (suc (suc b))) h = absurd cc
-
-pub kind_there : (code : ℕ) → kind_code (Some (kind_at code)) ≡ code → is_some (kind_of code) ≡ true
-unfolding kind_code
-kind_there zero h = absurd cc
-kind_there (suc zero) h = refl
-kind_there (suc (suc zero)) h = refl
-kind_there (suc (suc (suc b))) h = absurd cc
-
-pub status_there : (c : Category) (code : ℕ) → is_some (status_of code) ≡ true → IsStatusOf c code
-unfolding status_code
-status_there c zero e = absurd cc
-status_there c (suc zero) e = record { kept = refl; there = λ u. refl }
-status_there c (suc (suc zero)) e = record { kept = refl; there = λ u. refl }
-status_there c (suc (suc (suc b))) e = absurd cc
-
-pub status_null : (c : Category) (code : ℕ) → code ≡ 0 → (c ≡ category.Usage → ⊥) → IsStatusOf c code
-unfolding status_code
-status_null c zero e h = record { kept = refl; there = λ u. absurd (h u) }
-status_null c (suc s) e h = absurd (omega arith)
-
--- a code of a status that stands for none is that of null, and isn't that of a usage row
-pub status_none : (c : Category) (code : ℕ) → is_some (status_of code) ≡ false → IsStatusOf c code → (code ≡ 0) × (c ≡ category.Usage → ⊥)
-unfolding status_code
-status_none c zero e h = (refl, λ u. let there = h.there u in absurd cc)
-status_none c (suc zero) e h = absurd cc
-status_none c (suc (suc zero)) e h = absurd cc
-status_none c (suc (suc (suc b))) e h = let kept = h.kept in absurd cc
+-- ---- quantities
 
 pub quantity_there : (b : Bool) (z : ℤ) → b ≡ true → quantity_kept (quantity_of b z) ≡ z
 unfolding quantity_kept quantity_of
@@ -125,59 +60,54 @@ zero_abs (pos zero) e = refl
 zero_abs (pos (suc n)) e = absurd cc
 zero_abs (negsuc n) e = absurd cc
 
--- ---- texts and discounts
+-- ---- discounts
 
-pub short_null : (names : List Text) (code : ℕ) → (1 ≤ code → ⊥) → IsShortCode names code
-unfolding text_of
-short_null names zero h = record { within = omega arith; short = tt }
-short_null names (suc place) h = absurd (h (omega arith))
+kind_stays : (code : ℕ) → kind_code (kind_of code) ≡ code → code ≢ 0 → kind_code (Some (kind_at code)) ≡ code
+unfolding kind_code
+kind_stays zero h some = absurd (some refl)
+kind_stays (suc zero) h some = refl
+kind_stays (suc (suc zero)) h some = refl
+kind_stays (suc (suc (suc b))) h some = absurd cc
 
-pub short_there : (names : List Text) (code place : ℕ) (t : Text) → 1 ≤ code → place ≡ code - 1 → place < length names → slice_get names place ≡ Some t → IsShortText t → IsShortCode names code
-unfolding text_of text_at
-short_there names zero place t le is lt e h = absurd (omega arith)
-short_there names (suc p) place t le is lt e h =
-    let same : place ≡ p = omega (arith, is) in
-    let here : t ≡ get_or names p [] = sym (get_or_from_slice_get names place t [] e) ∙ ap (λ k. get_or names k []) same in
-    record { within = omega (arith, same, lt); short = subst IsShortText here h }
+kind_some : (code : ℕ) → kind_code (Some (kind_at code)) ≡ code → code ≢ 0
+unfolding kind_code
+kind_some zero h = absurd cc
+kind_some (suc b) h = λ e. absurd cc
 
--- the text of a code that isn't null
-pub text_there : (names : List Text) (code place : ℕ) (t : Text) → 1 ≤ code → place ≡ code - 1 → slice_get names place ≡ Some t → IsShortCode names code → IsShortText t
-unfolding text_of text_at
-text_there names zero place t le is e h = absurd (omega arith)
-text_there names (suc p) place t le is e h =
-    let same : place ≡ p = omega (arith, is) in
-    let here : t ≡ get_or names p [] = sym (get_or_from_slice_get names place t [] e) ∙ ap (λ k. get_or names k []) same in
-    subst IsShortText (sym here) h.short
+status_there : (code : ℕ) → status_code (status_of code) ≡ code → code ≢ 0 → IsSome (status_of code)
+unfolding status_code
+status_there zero h some = absurd (some refl)
+status_there (suc zero) h some = refl
+status_there (suc (suc zero)) h some = refl
+status_there (suc (suc (suc b))) h some = absurd cc
 
-pub discount_null : (names : List Text) (c : Category) (id k s : ℕ) → id ≡ 0 → k ≡ 0 → s ≡ 0 → IsDiscountKept names c id k s
-unfolding text_of discount_of kind_kept status_kept
-discount_null names c zero k s e f g = record { within = omega arith; rules = tt; kind = sym f; status = sym g }
-discount_null names c (suc p) k s e f g = absurd (omega arith)
+status_some : (code : ℕ) → IsSome (status_of code) → code ≢ 0
+status_some zero h = absurd cc
+status_some (suc b) h = λ e. absurd cc
 
-pub discount_there : (names : List Text) (c : Category) (id k s : ℕ) → (id ≡ 0 → ⊥) → IsShortCode names id → is_some (kind_of k) ≡ true → IsStatusOf c s → IsDiscountKept names c id k s
-unfolding text_of discount_of kind_kept status_kept
-discount_there names c zero k s e h f g = absurd (e refl)
-discount_there names c (suc p) k s e h f g = record {
-  within = h.within;
-  rules = record { id = h.short; status = g.there };
-  kind = kind_stays k f;
-  status = g.kept;
-}
+-- what codes of a discount that agree stand for
+module _ (names : List Text) (c : Category) where
+  pub discount_rules : (id k s : ℕ) → AreDiscountCodes c id k s → IsShortCode names id → status_code (status_of s) ≡ s → IfSome (discount_of (text_of names id) k s) (IsDiscountOf c)
+  unfolding text_of discount_of
+  discount_rules zero k s agree short kept = tt
+  discount_rules (suc p) k s agree short kept = record { id = short.short; status = λ usage. status_there s kept (agree.status (λ e. absurd cc) usage) }
 
--- what the codes of a discount are, where there is none and where there is one
-pub no_discount : (names : List Text) (c : Category) (id k s : ℕ) → id ≡ 0 → IsDiscountKept names c id k s → (k ≡ 0) × (s ≡ 0)
-unfolding text_of discount_of kind_kept status_kept
-no_discount names c zero k s e h = (sym h.kind, sym h.status)
-no_discount names c (suc p) k s e h = absurd (omega arith)
+  pub kind_back : (id k s : ℕ) → AreDiscountCodes c id k s → kind_code (kind_of k) ≡ k → kind_kept (discount_of (text_of names id) k s) ≡ k
+  unfolding text_of discount_of kind_kept
+  kind_back zero k s agree kept = sym (agree.null refl).0
+  kind_back (suc p) k s agree kept = kind_stays k kept (agree.kind (λ e. absurd cc))
 
-pub some_discount : (names : List Text) (c : Category) (id k s : ℕ) → (id ≡ 0 → ⊥) → IsDiscountKept names c id k s
-    → IsShortCode names id × ((is_some (kind_of k) ≡ true) × IsStatusOf c s)
-unfolding text_of discount_of kind_kept status_kept
-some_discount names c zero k s e h = absurd (e refl)
-some_discount names c (suc p) k s e h = (
-  record { within = h.within; short = h.rules.id },
-  (kind_there k h.kind, record { kept = h.status; there = h.rules.status }),
-)
+  pub status_back : (id k s : ℕ) → AreDiscountCodes c id k s → status_code (status_of s) ≡ s → status_kept (discount_of (text_of names id) k s) ≡ s
+  unfolding text_of discount_of status_kept
+  status_back zero k s agree kept = sym (agree.null refl).1
+  status_back (suc p) k s agree kept = kept
+
+  -- and those that a discount is kept as agree
+  pub codes_agree : (id k s : ℕ) → IfSome (discount_of (text_of names id) k s) (IsDiscountOf c) → kind_kept (discount_of (text_of names id) k s) ≡ k → status_kept (discount_of (text_of names id) k s) ≡ s
+      → AreDiscountCodes c id k s
+  unfolding text_of discount_of kind_kept status_kept
+  codes_agree zero k s rules kind status = record { null = λ e. (sym kind, sym status); kind = λ some. absurd (some refl); status = λ some. absurd (some refl) }
+  codes_agree (suc p) k s rules kind status = record { null = λ e. absurd cc; kind = λ some. kind_some k kind; status = λ some usage. status_some s (rules.status usage) }
 
 -- ---- lists up to a place
 
@@ -324,7 +254,7 @@ lists_after lists count now code more are lt here few same = by (eqb_tells code 
 
 -- ---- tags
 
-pub tags_sized : (names : List Text) → All (λ t. length t ≤ longest_tag_text) names → (list : List ℕ) → All (λ place. place < length names) list → All IsTagSized (tags_of names list)
+tags_sized : (names : List Text) → All (λ t. length t ≤ longest_tag_text) names → (list : List ℕ) → All (λ place. place < length names) list → All IsTagSized (tags_of names list)
 unfolding tags_of tag_of text_at
 tags_sized names sized [] within = All-nil IsTagSized
 tags_sized names sized (key ∷ []) within = All-nil IsTagSized
@@ -334,6 +264,16 @@ tags_sized names sized (key ∷ value ∷ places) within =
     All-cons IsTagSized (tag_of names key value) (tags_of names places)
     (record { key = sized key [] (All-head Within key (value ∷ places) within); value = sized value [] (All-head Within value places behind) })
     (tags_sized names sized places (All-tail Within value places behind))
+
+-- a list of places stands for tags where their keys rise
+pub are_tags : (names : List Text) → All (λ t. length t ≤ longest_tag_text) names → (list : List ℕ) → ArePlacesOfTags names list → rise (map (λ t. t.key) (tags_of names list)) ≡ true → IsTagList names list
+are_tags names sized list are rising =
+    let few : length list / 2 ≤ most_tags = are.few in
+    record {
+      rising = sorted_from_rise (map (λ t. t.key) (tags_of names list)) rising;
+      few = omega (arith, few, tags_counted names list);
+      sized = tags_sized names sized list are.within;
+    }
 
 -- ---- rows up to a place
 

@@ -1,15 +1,15 @@
 -- When columns that were put together elsewhere are those of rows.
-use Rattle.std.specs.Prelude.{◌≡◌, ◌<◌, ◌≤◌, ◌*◌, ◌/◌, ◌++◌, ℕ, ℤ, pos, nat_abs, Bool, false, List, [], length, map, take, slice_index_or, option_to_list, IfSome, IsSome, All}
+use Rattle.std.specs.Prelude.{◌≡◌, ◌≢◌, ◌<◌, ◌≤◌, ◌*◌, ◌/◌, ◌++◌, ℕ, ℤ, pos, nat_abs, Bool, false, List, [], length, map, take, slice_index_or, option_to_list, IfSome, All}
 use Rattle.std.specs.List.{flat_map, range_with_len}
 use Rattle.fw_money.specs.Amount.{most_nanos}
-use Rattle.fw_charge.specs.Charge.{Charge, IsShortText, IsDiscountOf, last_second}
-use Rattle.fw_charge.specs.Codes.{category_code, class_code, status_code, status_of}
+use Rattle.fw_charge.specs.Charge.{Charge, IsShortText, last_second}
+use Rattle.fw_charge.specs.Codes.{category_code, class_code, kind_code, kind_of, status_code, status_of}
 use Rattle.fw_charge.specs.declared.category.Category.{Category}
 use Rattle.fw_charge.specs.declared.category.Category.TheVariants as category
-use Rattle.fw_charge.specs.Tags.{IsTags}
+use Rattle.fw_charge.specs.Tags.{IsTags, longest_tag_text, most_tags}
 use Rattle.fw_row_table.specs.Names.{Text, place_of}
 use Rattle.fw_row_table.specs.Texts.{with_texts}
-use Rattle.fw_row_table.specs.Table.{AreColumns, category_at, class_at, kind_kept, status_kept, quantity_kept, text_at, text_of, discount_of, quantity_of, tags_of, list_at}
+use Rattle.fw_row_table.specs.Table.{AreColumns, most_column_rows, category_at, class_at, quantity_kept, text_at, text_of, quantity_of, tags_of, list_at}
 use Rattle.fw_row_table.specs.declared.table.Table.{Table}
 
 -- lists, each once and in the order in which it is first seen, and for each row the place of its list
@@ -39,56 +39,57 @@ pub record HaveLength (t : Table) (n : ℕ) : Type 0 where
   pub sub_accounts : length t.sub_accounts.items ≡ n
   pub tags : length t.tags.items ≡ n
 
--- a list of places stands for tags
-pub record IsTagList (names : List Text) (list : List ℕ) : Type 0 where
-  pub even : 2 * (length list / 2) ≡ length list
-  pub within : All (λ place. place < length names) list
-  pub tags : IsTags (tags_of names list)
-
--- the codes of a discount are those that its parts are kept as, in a row of a category
-pub record IsDiscountKept (names : List Text) (c : Category) (id k s : ℕ) : Type 0 where
-  pub within : id ≤ length names
-  pub rules : IfSome (discount_of (text_of names id) k s) (IsDiscountOf c)
-  pub kind : kind_kept (discount_of (text_of names id) k s) ≡ k
-  pub status : status_kept (discount_of (text_of names id) k s) ≡ s
-
--- the code of a status that a discount may have in a row of a category
-pub record IsStatusOf (c : Category) (s : ℕ) : Type 0 where
-  pub kept : status_code (status_of s) ≡ s
-  pub there : c ≡ category.Usage → IsSome (status_of s)
-
--- the first second of a period, as it is kept, and the second after it
-pub record IsPeriod (from : ℤ) (to : ℕ) : Type 0 where
-  pub kept : pos (nat_abs from) ≡ from
-  pub ordered : nat_abs from ≤ to
-  pub dated : to ≤ last_second
-
--- what a quantity is kept as
-abbrev pub IsQuantityKept : Bool → ℤ → Type 0
-IsQuantityKept is_there quantity = quantity_kept (quantity_of is_there quantity) ≡ quantity
-
 -- the code of a short text, or of null
 pub record IsShortCode (names : List Text) (code : ℕ) : Type 0 where
   pub within : code ≤ length names
   pub short : IfSome (text_of names code) IsShortText
 
--- the codes of unit, SKU and sub-account at a place are those of short texts, or of null
-pub record HaveShortCodes (t : Table) (i : ℕ) : Type 0 where
-  pub unit : IsShortCode t.names (slice_index_or t.units.items i 0)
-  pub sku : IsShortCode t.names (slice_index_or t.skus.items i 0)
-  pub sub_account : IsShortCode t.names (slice_index_or t.sub_accounts.items i 0)
+-- a list of the places of texts, two for each of at most 256 tags
+pub record ArePlacesOfTags (names : List Text) (list : List ℕ) : Type 0 where
+  pub even : 2 * (length list / 2) ≡ length list
+  pub few : length list / 2 ≤ most_tags
+  pub within : All (λ place. place < length names) list
 
--- the values at a place are those of a row
-pub record HasValues (t : Table) (i : ℕ) : Type 0 where
-  pub billed : nat_abs (slice_index_or t.billed.items i (pos 0)) ≤ most_nanos
-  pub effective : nat_abs (slice_index_or t.effective.items i (pos 0)) ≤ most_nanos
-  pub category : category_code (category_at (slice_index_or t.categories.items i 0)) ≡ slice_index_or t.categories.items i 0
-  pub class : class_code (class_at (slice_index_or t.classes.items i 0)) ≡ slice_index_or t.classes.items i 0
-  pub period : IsPeriod (slice_index_or t.starts.items i (pos 0)) (slice_index_or t.ends.items i 0)
-  pub discount : IsDiscountKept t.names (category_at (slice_index_or t.categories.items i 0)) (slice_index_or t.discounts.items i 0) (slice_index_or t.kinds.items i 0) (slice_index_or t.statuses.items i 0)
-  pub count : nat_abs (slice_index_or t.quantities.items i (pos 0)) ≤ most_nanos
+-- a table of 1 to 65,536 rows with each single field in its range: amounts, seconds, the codes of what there is, and texts that aren't too long
+pub record HasFieldsInRange (t : Table) : Type 0 where
+  pub some : 0 < length t.billed.items
+  pub few : length t.billed.items ≤ most_column_rows
+  pub sizes : HaveLength t (length t.billed.items)
+  pub names : All (λ text. length text ≤ longest_tag_text) t.names
+  pub lists : All (ArePlacesOfTags t.names) t.lists
+  pub billed : All (λ amount. nat_abs amount ≤ most_nanos) t.billed.items
+  pub effective : All (λ amount. nat_abs amount ≤ most_nanos) t.effective.items
+  pub categories : All (λ code. category_code (category_at code) ≡ code) t.categories.items
+  pub classes : All (λ code. class_code (class_at code) ≡ code) t.classes.items
+  pub starts : All (λ second. pos (nat_abs second) ≡ second) t.starts.items
+  pub ends : All (λ second. second ≤ last_second) t.ends.items
+  pub discounts : All (IsShortCode t.names) t.discounts.items
+  pub kinds : All (λ code. kind_code (kind_of code) ≡ code) t.kinds.items
+  pub statuses : All (λ code. status_code (status_of code) ≡ code) t.statuses.items
+  pub quantities : All (λ amount. nat_abs amount ≤ most_nanos) t.quantities.items
+  pub units : All (IsShortCode t.names) t.units.items
+  pub skus : All (IsShortCode t.names) t.skus.items
+  pub sub_accounts : All (IsShortCode t.names) t.sub_accounts.items
+
+-- a list of places stands for tags that keep their rules
+abbrev pub IsTagList : List Text → List ℕ → Type 0
+IsTagList names list = IsTags (tags_of names list)
+
+-- the codes of a discount agree in a row of a category: without an id all are 0; with one there is a kind, and in a usage row a status
+pub record AreDiscountCodes (c : Category) (id k s : ℕ) : Type 0 where
+  pub null : id ≡ 0 → (k ≡ 0) × (s ≡ 0)
+  pub kind : id ≢ 0 → k ≢ 0
+  pub status : id ≢ 0 → c ≡ category.Usage → s ≢ 0
+
+-- what a quantity is kept as
+abbrev pub IsQuantityKept : Bool → ℤ → Type 0
+IsQuantityKept is_there quantity = quantity_kept (quantity_of is_there quantity) ≡ quantity
+
+-- the fields at a place agree with each other, as those of a row do
+pub record AgreeAt (t : Table) (i : ℕ) : Type 0 where
+  pub period : nat_abs (slice_index_or t.starts.items i (pos 0)) ≤ slice_index_or t.ends.items i 0
+  pub discount : AreDiscountCodes (category_at (slice_index_or t.categories.items i 0)) (slice_index_or t.discounts.items i 0) (slice_index_or t.kinds.items i 0) (slice_index_or t.statuses.items i 0)
   pub quantity : IsQuantityKept (slice_index_or t.has_quantity.items i false) (slice_index_or t.quantities.items i (pos 0))
-  pub texts : HaveShortCodes t i
 
 -- the names so far, once texts were seen in turn: the first of all names
 pub record HaveSeen (names : List Text) (before now : ℕ) (texts : List Text) : Type 0 where
@@ -112,9 +113,9 @@ texts_there t i =
     ++ (option_to_list (text_of t.names (slice_index_or t.skus.items i 0))
     ++ (option_to_list (text_of t.names (slice_index_or t.sub_accounts.items i 0)) ++ map (text_at t.names) (list_at t i))))
 
--- columns with the values of rows, whose names are numbered as their texts are first seen
+-- columns with the fields of rows, whose names are numbered as their texts are first seen
 pub record HaveRows (t : Table) (n : ℕ) : Type 0 where
-  pub values : (i : ℕ) → i < n → HasValues t i
+  pub agree : (i : ℕ) → i < n → AgreeAt t i
   pub names : t.names ≡ with_texts [] (flat_map (texts_there t) (range_with_len 0 n))
 
 -- no rows have this table

@@ -1,25 +1,24 @@
 //! Whether columns that were put together elsewhere are those of rows.
 ghost use Rattle.std.specs.Prelude.{◌≡◌, ◌≢◌, ◌+◌, ◌<◌, ◌≤◌, ◌↔◌, [], ◌∷◌, List, length, map, pos, nat_abs, option_to_list, slice_index_or, All, IfNone, IfOk, IfSome, IsNone, IsTrue};
 ghost use Rattle.fw_charge.specs.Charge.{Charge};
-ghost use Rattle.fw_charge.specs.Codes.{category_code, class_code};
 ghost use Rattle.fw_charge.specs.Tags.{longest_tag_text};
-ghost use Rattle.fw_money.specs.Amount.{most_nanos};
-ghost use Rattle.fw_columns.specs.Parts.{AreListsSeen, AreNumbered, AreOutOfTurn, lists_there, HaveLength, HaveRows, HaveSeen, HaveShortCodes, HasNoRows, HasValues, IsDiscountKept, IsPeriod, IsQuantityKept, IsShortCode, IsStatusOf, IsTagList, texts_there};
-ghost use Rattle.fw_row_table.specs.Table.{AreColumns, rows_of, category_at, class_at, list_at, text_at, text_of, tags_of};
+ghost use Rattle.fw_columns.specs.Parts.{AgreeAt, AreDiscountCodes, AreListsSeen, AreNumbered, AreOutOfTurn, ArePlacesOfTags, HasFieldsInRange, HasNoRows, HaveLength, HaveRows, HaveSeen, IsQuantityKept, IsTagList, lists_there, texts_there};
+ghost use Rattle.fw_row_table.specs.Table.{AreColumns, rows_of, category_at, list_at, text_at, text_of, tags_of};
 ghost use Rattle.fw_bytes.specs.Order.{rise};
 
 use crate::columns::Columns;
-use fw_charge::{
-    Category, DiscountKind, DiscountStatus, LAST_SECOND, Tag, Tags, class_from_code, is_short_text,
-};
-use fw_money::Nanos;
+use fw_charge::Category;
 use fw_row_table::{Lists, Names, Table, category_at};
 use std::alloc::{AllocError, Global};
 
 impl Columns {
-    /// The columns of the rows that have this table, whose lists of tags are numbered as they are first seen. `None` exactly where no rows have it, 1 to 65,536 of
-    /// them with amounts in range: as where a name is no text of a row, or stands before one that occurs earlier.
+    /// The columns of the rows that have this table, each of whose fields is in its range, and whose lists of tags are numbered as they are first seen.
+    /// `None` exactly where no rows have it: as where a name is no text of a row, or stands before one that occurs earlier.
+    ///
+    /// # Errors
+    /// [`AllocError`] only where memory is refused.
     pub fn checked(alloc: Global, table: Table) -> Result<Option<Columns>, AllocError>
+        requires fields { HasFieldsInRange table }
         requires few { length table.lists ≤ length table.tags.items }
         requires numbered { AreNumbered table.lists table.tags.items
             (lists_there table.lists table.tags.items) }
@@ -34,107 +33,31 @@ impl Columns {
     }
 }
 
-/// Whether columns are those of rows, 1 to 65,536 of them.
+/// Whether columns are those of rows.
 fn are_columns(table: &Table) -> bool
+    requires fields { HasFieldsInRange table.now }
     requires few { length table.now.lists ≤ length table.now.tags.items }
     requires numbered { AreNumbered table.now.lists table.now.tags.items
         (lists_there table.now.lists table.now.tags.items) }
-    ensures some { IsTrue result → 0 < length (rows_of table.now) }
     ensures columns { IsTrue result → AreColumns table.now (rows_of table.now) }
-    ensures of_rows { (rows : List Charge) → 0 < length rows
-        → AreColumns table.now rows → IsTrue result }
+    ensures of_rows { (rows : List Charge) → AreColumns table.now rows → IsTrue result }
 {
     // Proves that no text is there twice.
     let _names = table.names.len();
-    let count = table.billed.len();
-    if count == 0 {
-        return false;
-    }
-    if count > Columns::MOST_ROWS {
-        return false;
-    }
-    if !have_length(table) {
-        return false;
-    }
-    if !are_sized(&table.names) {
-        return false;
-    }
     if !are_tag_lists(&table.names, &table.lists) {
         return false;
     }
     have_rows(table)
 }
 
-/// Whether each column has as many values as there are billed costs.
-fn have_length(table: &Table) -> bool
-    ensures { IsTrue result ↔ HaveLength table.now (length table.now.billed.items) }
-{
-    let count = table.billed.len();
-    table.effective.len() == count
-        && table.categories.len() == count
-        && table.classes.len() == count
-        && table.starts.len() == count
-        && table.ends.len() == count
-        && table.discounts.len() == count
-        && table.kinds.len() == count
-        && table.statuses.len() == count
-        && table.quantities.len() == count
-        && table.has_quantity.len() == count
-        && table.units.len() == count
-        && table.skus.len() == count
-        && table.sub_accounts.len() == count
-        && table.tags.len() == count
-}
-
-/// Whether no text has more than 1,024 bytes.
-fn are_sized(names: &Names) -> bool
-    ensures { IsTrue result ↔ All (λ text. length text ≤ longest_tag_text) names.now }
-{
-    for place in 0..names.len() as u32 {
-        if names.text(place).len() > Tag::LONGEST {
-            return false;
-        }
-    }
-    true
-}
-
-/// Whether each list stands for tags, as texts of at most 1,024 bytes.
+/// Whether the keys of each list rise, so that it stands for tags.
 fn are_tag_lists(names: &Names, lists: &Lists) -> bool
-    requires { All (λ text. length text ≤ longest_tag_text) names.now }
+    requires sized { All (λ text. length text ≤ longest_tag_text) names.now }
+    requires places { All (ArePlacesOfTags names.now) lists.now }
     ensures { IsTrue result ↔ All (IsTagList names.now) lists.now }
 {
     for place in 0..lists.len() as u32 {
-        if !is_tag_list(names, lists.list(place)) {
-            return false;
-        }
-    }
-    true
-}
-
-/// Whether a list of places stands for tags.
-fn is_tag_list(names: &Names, list: &[u32]) -> bool
-    requires { All (λ text. length text ≤ longest_tag_text) names.now }
-    ensures { IsTrue result ↔ IsTagList names.now list.now }
-{
-    if list.len() % 2 != 0 {
-        return false;
-    }
-    if list.len() / 2 > Tags::MOST {
-        return false;
-    }
-    if !are_within(names, list) {
-        return false;
-    }
-    keys_rise(names, list)
-}
-
-/// Whether there is a name at each place.
-fn are_within(names: &Names, list: &[u32]) -> bool
-    ensures { IsTrue result ↔ All (λ place. place < length names.now) list.now }
-{
-    let count = names.len();
-    for place in list {
-        if *place as usize >= count {
+        if !keys_rise(names, lists.list(place)) {
             return false;
         }
     }
@@ -162,74 +85,28 @@ fn keys_rise(names: &Names, list: &[u32]) -> bool
     true
 }
 
-/// Whether the amount at a place is in range.
-fn is_amount(column: &[i64], place: usize) -> bool
-    requires { place < length column.now }
-    ensures { IsTrue result ↔ (nat_abs (slice_index_or column.now place (pos 0)) ≤ most_nanos) }
+/// Whether the second at a place isn't after the end of a period.
+fn is_period(starts: &[i64], place: usize, end: u64) -> bool
+    requires { place < length starts.now }
+    ensures { IsTrue result ↔ (nat_abs (slice_index_or starts.now place (pos 0)) ≤ end) }
 {
-    column[place].unsigned_abs() <= Nanos::MOST as u64
+    starts[place].unsigned_abs() <= end
 }
 
-/// Whether a code is that of a category.
-fn is_category(code: u8) -> bool
-    ensures { IsTrue result ↔ (category_code (category_at code) ≡ code) }
-{
-    Category::from_code(code).is_some()
-}
-
-/// Whether a code is that of a class.
-fn is_class(code: u8) -> bool
-    ensures { IsTrue result ↔ (class_code (class_at code) ≡ code) }
-{
-    class_from_code(code).is_some()
-}
-
-/// Whether a code is that of a short text, or of null.
-fn is_short_code(names: &Names, code: u32) -> bool
-    ensures { IsTrue result ↔ IsShortCode names.now code }
-{
-    match code.checked_sub(1) {
-        None => true,
-        Some(place) => (place as usize) < names.len() && is_short_text(names.text(place)),
-    }
-}
-
-/// Whether codes are those that the parts of a discount are kept as, in a row of a category.
-fn is_discount(names: &Names, category: Category, id: u32, kind: u8, status: u8) -> bool
-    ensures { IsTrue result ↔ IsDiscountKept names.now category id kind status }
+/// Whether the codes of a discount agree in a row of a category.
+fn is_discount(category: Category, id: u32, kind: u8, status: u8) -> bool
+    ensures { IsTrue result ↔ AreDiscountCodes category id kind status }
 {
     if id == 0 {
         return kind == 0 && status == 0;
     }
-    if !is_short_code(names, id) {
+    if kind == 0 {
         return false;
-    }
-    if !DiscountKind::from_code(kind).is_some() {
-        return false;
-    }
-    is_status(category, status)
-}
-
-/// Whether a code is that of a status that a discount may have in a row of a category.
-fn is_status(category: Category, code: u8) -> bool
-    ensures { IsTrue result ↔ IsStatusOf category code }
-{
-    if DiscountStatus::from_code(code).is_some() {
-        return true;
     }
     match category {
-        Category::Usage => false,
-        _ => code == 0,
+        Category::Usage => status != 0,
+        _ => true,
     }
-}
-
-/// Whether the second at a place and a second after it bound a period.
-fn is_period(starts: &[i64], place: usize, end: u64) -> bool
-    requires { place < length starts.now }
-    ensures { IsTrue result ↔ IsPeriod (slice_index_or starts.now place (pos 0)) end }
-{
-    let start = starts[place];
-    start >= 0 && start as u64 <= end && end <= LAST_SECOND
 }
 
 /// Whether the amount at a place is what a quantity is kept as.
@@ -240,65 +117,25 @@ fn is_quantity(counts: &[i64], place: usize, is_there: bool) -> bool
     is_there || counts[place].unsigned_abs() == 0
 }
 
-/// Whether the values at a place are those of a row.
-fn has_values(table: &Table, place: usize) -> bool
+/// Whether the fields at a place agree with each other.
+fn agree_at(table: &Table, place: usize) -> bool
     requires all { HaveLength table.now (length table.now.billed.items) }
     requires within { place < length table.now.billed.items }
-    ensures { IsTrue result ↔ HasValues table.now place }
+    ensures { IsTrue result ↔ AgreeAt table.now place }
 {
-    if !is_amount(table.billed.as_slice(), place) {
-        return false;
-    }
-    if !is_amount(table.effective.as_slice(), place) {
-        return false;
-    }
-    if !is_category(table.categories[place]) {
-        return false;
-    }
-    if !is_class(table.classes[place]) {
-        return false;
-    }
     if !is_period(table.starts.as_slice(), place, table.ends[place]) {
         return false;
     }
     let category = category_at(table.categories.as_slice(), place);
     let id = table.discounts[place];
-    if !is_discount(
-        &table.names,
-        category,
-        id,
-        table.kinds[place],
-        table.statuses[place],
-    ) {
+    if !is_discount(category, id, table.kinds[place], table.statuses[place]) {
         return false;
     }
-    if !is_amount(table.quantities.as_slice(), place) {
-        return false;
-    }
-    if !is_quantity(
+    is_quantity(
         table.quantities.as_slice(),
         place,
         table.has_quantity[place],
-    ) {
-        return false;
-    }
-    has_texts(table, place)
-}
-
-/// Whether the codes of unit, SKU and sub-account at a place are those of short texts, or of null.
-fn has_texts(table: &Table, place: usize) -> bool
-    requires all { HaveLength table.now (length table.now.billed.items) }
-    requires within { place < length table.now.billed.items }
-    ensures { IsTrue result ↔ HaveShortCodes table.now place }
-{
-    let names = &table.names;
-    if !is_short_code(names, table.units[place]) {
-        return false;
-    }
-    if !is_short_code(names, table.skus[place]) {
-        return false;
-    }
-    is_short_code(names, table.sub_accounts[place])
+    )
 }
 
 /// How many names are seen once the one at a place is seen too. `None` where one before it wasn't.
@@ -360,7 +197,7 @@ fn see_list(names: &Names, seen: u32, list: &[u32]) -> Option<u32>
 /// The same of the texts of the list of tags with a code. Those of the first lists are seen already.
 fn see_tags(table: &Table, seen: u32, lists_seen: u32, code: u32) -> Option<u32>
     requires seen { seen ≤ length table.now.names }
-    requires lists { All (IsTagList table.now.names) table.now.lists }
+    requires lists { All (ArePlacesOfTags table.now.names) table.now.lists }
     requires code { code < length table.now.lists }
     requires before { AreListsSeen table.now.lists lists_seen seen }
     ensures some { IfSome result (λ now. HaveSeen table.now.names seen now
@@ -379,11 +216,9 @@ fn see_tags(table: &Table, seen: u32, lists_seen: u32, code: u32) -> Option<u32>
 
 /// The same of the texts of a row in turn. Those of the first lists of tags are seen already.
 fn see_row(table: &Table, seen: u32, lists_seen: u32, place: usize) -> Option<u32>
-    requires all { HaveLength table.now (length table.now.billed.items) }
+    requires fields { HasFieldsInRange table.now }
     requires within { place < length table.now.billed.items }
     requires seen { seen ≤ length table.now.names }
-    requires values { HasValues table.now place }
-    requires lists { All (IsTagList table.now.names) table.now.lists }
     requires list { slice_index_or table.now.tags.items place 0 < length table.now.lists }
     requires before { AreListsSeen table.now.lists lists_seen seen }
     ensures some { IfSome result (λ now.
@@ -414,15 +249,14 @@ fn lists_after(lists_seen: u32, code: u32) -> u32
 
 /// Whether columns are those of rows, whose names are numbered as their texts are first seen.
 fn have_rows(table: &Table) -> bool
-    requires all { HaveLength table.now (length table.now.billed.items) }
-    requires lists { All (IsTagList table.now.names) table.now.lists }
+    requires fields { HasFieldsInRange table.now }
     requires tags { All (λ place. place < length table.now.lists) table.now.tags.items }
     ensures { IsTrue result ↔ HaveRows table.now (length table.now.billed.items) }
 {
     let mut seen = 0;
     let mut lists_seen = 0;
     for place in 0..table.billed.len() {
-        if !has_values(table, place) {
+        if !agree_at(table, place) {
             return false;
         }
         match see_row(table, seen, lists_seen, place) {

@@ -1,8 +1,12 @@
 use Rattle.fw_column_bytes.proofs.DirectFacts.{columns_match_if, none_match, no_names}
+use Rattle.fw_column_bytes.proofs.InRange.{fields_in_range}
 use Rattle.fw_column_bytes.proofs.rows.columns_with.Goals as goal
 
 pub table_with-requires : goal.table_with-requires
 table_with-requires c = rw c.in-Some.is at c.in_ok-kept.ensures.some
+
+pub checked-requires-clause-fields : goal.checked-requires-clause-fields
+checked-requires-clause-fields c = fields_in_range _ c.args.parts c.requires c.table_with.ensures
 
 pub returns-clause-some : goal.returns-clause-some
 returns-clause-some c = columns_match_if _ c.args.parts c.requires c.in_ok-columns.columns c.in_ok-columns.ensures.some c.table_with.ensures

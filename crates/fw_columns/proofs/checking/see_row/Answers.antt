@@ -59,7 +59,7 @@ returns-in_err-seen-clause-none c =
     let t = c.args.table.now in
     let i = c.args.place in
     let within = c.requires.within in
-    let all = c.requires.all in
+    let all = c.requires.fields.sizes in
     let out = at_row t (AreOutOfTurn t.names c.args.seen) t.discounts.items i _ within all.discounts c.index.ensures c.in_err-seen.ensures.none in
     rw c.from_residual.ensures (out_id t i c.args.seen out)
 
@@ -68,7 +68,7 @@ returns-in_err-seen-2-clause-none c =
     let t = c.args.table.now in
     let i = c.args.place in
     let within = c.requires.within in
-    let all = c.requires.all in
+    let all = c.requires.fields.sizes in
     let one = at_row t (HaveSeen t.names c.args.seen c.in_ok-seen.seen) t.discounts.items i _ within all.discounts c.index.ensures c.in_ok-seen.ensures.some in
     let out = at_row t (AreOutOfTurn t.names c.in_ok-seen.seen) t.units.items i _ within all.units c.index-2.ensures c.in_err-seen-2.ensures.none in
     rw c.from_residual-in_err-seen-2.ensures (out_unit t i c.args.seen c.in_ok-seen.seen one out)
@@ -78,7 +78,7 @@ returns-in_err-seen-3-clause-none c =
     let t = c.args.table.now in
     let i = c.args.place in
     let within = c.requires.within in
-    let all = c.requires.all in
+    let all = c.requires.fields.sizes in
     let one = at_row t (HaveSeen t.names c.args.seen c.in_ok-seen.seen) t.discounts.items i _ within all.discounts c.index.ensures c.in_ok-seen.ensures.some in
     let two = at_row t (HaveSeen t.names c.in_ok-seen.seen c.in_ok-seen-2.seen) t.units.items i _ within all.units c.index-2.ensures c.in_ok-seen-2.ensures.some in
     let out = at_row t (AreOutOfTurn t.names c.in_ok-seen-2.seen) t.skus.items i _ within all.skus c.index-3.ensures c.in_err-seen-3.ensures.none in
@@ -89,7 +89,7 @@ returns-in_err-seen-4-clause-none c =
     let t = c.args.table.now in
     let i = c.args.place in
     let within = c.requires.within in
-    let all = c.requires.all in
+    let all = c.requires.fields.sizes in
     let one = at_row t (HaveSeen t.names c.args.seen c.in_ok-seen.seen) t.discounts.items i _ within all.discounts c.index.ensures c.in_ok-seen.ensures.some in
     let two = at_row t (HaveSeen t.names c.in_ok-seen.seen c.in_ok-seen-2.seen) t.units.items i _ within all.units c.index-2.ensures c.in_ok-seen-2.ensures.some in
     let three = at_row t (HaveSeen t.names c.in_ok-seen-2.seen c.in_ok-seen-3.seen) t.skus.items i _ within all.skus c.index-3.ensures c.in_ok-seen-3.ensures.some in
@@ -102,7 +102,7 @@ returns-clause-some c =
     let t = c.args.table.now in
     let i = c.args.place in
     let within = c.requires.within in
-    let all = c.requires.all in
+    let all = c.requires.fields.sizes in
     let one = at_row t (HaveSeen t.names c.args.seen c.in_ok-seen.seen) t.discounts.items i _ within all.discounts c.index.ensures c.in_ok-seen.ensures.some in
     let two = at_row t (HaveSeen t.names c.in_ok-seen.seen c.in_ok-seen-2.seen) t.units.items i _ within all.units c.index-2.ensures c.in_ok-seen-2.ensures.some in
     let three = at_row t (HaveSeen t.names c.in_ok-seen-2.seen c.in_ok-seen-3.seen) t.skus.items i _ within all.skus c.index-3.ensures c.in_ok-seen-3.ensures.some in
@@ -118,7 +118,7 @@ returns-clause-none c =
     let t = c.args.table.now in
     let i = c.args.place in
     let within = c.requires.within in
-    let all = c.requires.all in
+    let all = c.requires.fields.sizes in
     let one = at_row t (HaveSeen t.names c.args.seen c.in_ok-seen.seen) t.discounts.items i _ within all.discounts c.index.ensures c.in_ok-seen.ensures.some in
     let two = at_row t (HaveSeen t.names c.in_ok-seen.seen c.in_ok-seen-2.seen) t.units.items i _ within all.units c.index-2.ensures c.in_ok-seen-2.ensures.some in
     let three = at_row t (HaveSeen t.names c.in_ok-seen-2.seen c.in_ok-seen-3.seen) t.skus.items i _ within all.skus c.index-3.ensures c.in_ok-seen-3.ensures.some in
@@ -138,5 +138,5 @@ unfolding list_at
 returns-clause-list c =
     let t = c.args.table.now in
     let list : get_or t.lists c.index-5.result.now [] ≡ list_at t c.args.place =
-    ap (λ place. get_or t.lists place []) (get_or_read t.tags.items c.args.place _ (omega (arith, c.requires.all.tags, c.requires.within)) c.index-5.ensures 0) in
+    ap (λ place. get_or t.lists place []) (get_or_read t.tags.items c.args.place _ (omega (arith, c.requires.fields.sizes.tags, c.requires.within)) c.index-5.ensures 0) in
     subst (λ (xs : List ℕ). IfSome c.see_tags.result (λ now. All (λ text. text < now) xs)) list c.see_tags.ensures.within
