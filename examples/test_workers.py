@@ -122,6 +122,20 @@ class Workers(Case):
         self.write("long.csv", self.long)
         self.assertIn('"rowsAdded":20000', self.same("--summary", "json", "long.csv")[1])
 
+    def test_reports(self):
+        self.imported("one", 1, self.write("long.csv", self.long))
+        commitment = (HERE / "commitment.toml").read_bytes()
+        self.do("add", "--dir", "one", "--origin", "b", self.write("commitment.toml", commitment))
+        for words in (("report",), ("report", "--by", "day"), ("report", "--by", "month", "--format", "json"), ("compare", "--month", "2024-09", "--before", "2024-09-02")):
+            words = (*words, "--dir", "one", "--tag", "team")
+            one = self.focusd(*words, "--workers", 1)
+            self.assertEqual(one[0], 0, one)
+            for workers in ((), *(("--workers", it) for it in NUMBERS)):
+                self.assertEqual(self.focusd(*words, *workers), one, (words, workers))
+        for command in ("report", "compare"):
+            for workers in ("0", "65", "x", ""):
+                self.assertEqual(self.focusd(command, "--dir", "one", "--tag", "team", "--workers", workers)[0], 2, workers)
+
     def test_how_many(self):
         self.write("long.csv", self.long)
         for workers in ("0", "65", "-1", "x", ""):

@@ -106,17 +106,22 @@ fn run_command<R: Threads + Wait + Sync>(
         Some(("checkpoint", options)) => Ok(make_checkpoint(rt, options)),
         Some(("compact", options)) => Ok(compact_folder(rt, options)),
         Some(("split", options)) => split_files(rt, options),
-        Some((question, options)) => ask(rt, question, options),
+        Some((question, options)) => ask(rt, threads, question, options),
         None => Ok(wrong_use(rt, "no command")),
     }
 }
 
 // Runs a command that changes no warehouse.
-fn ask(rt: &HostRuntime, question: &str, options: &ArgMatches<'_>) -> Result<ExitCode, Fault> {
+fn ask(
+    rt: &HostRuntime,
+    threads: &(impl Threads + Sync),
+    question: &str,
+    options: &ArgMatches<'_>,
+) -> Result<ExitCode, Fault> {
     match question {
         "check" => check_files(rt, options),
-        "report" => report(rt, options),
-        "compare" => print_comparison(rt, options),
+        "report" => report(rt, threads, options),
+        "compare" => print_comparison(rt, threads, options),
         "lines" => print_lines(rt, options),
         "export" => print_export(rt, options),
         "coverage" => print_coverage(rt, options),
@@ -132,13 +137,17 @@ fn ask(rt: &HostRuntime, question: &str, options: &ArgMatches<'_>) -> Result<Exi
 }
 
 // Prints the report that the options ask for, under the policy of a file where they name one.
-fn report(rt: &HostRuntime, options: &ArgMatches<'_>) -> Result<ExitCode, Fault> {
+fn report(
+    rt: &HostRuntime,
+    threads: &(impl Threads + Sync),
+    options: &ArgMatches<'_>,
+) -> Result<ExitCode, Fault> {
     if let Some(status) = wrong_report(rt, options)? {
         return Ok(status);
     }
     match &policy_file(rt, options)? {
-        PolicyFile::Policy(policy) => print_report(rt, options, Some(policy)),
-        PolicyFile::None => print_report(rt, options, None),
+        PolicyFile::Policy(policy) => print_report(rt, threads, options, Some(policy)),
+        PolicyFile::None => print_report(rt, threads, options, None),
         PolicyFile::Refused => Ok(ExitCode::FAILURE),
     }
 }

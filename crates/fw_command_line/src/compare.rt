@@ -2,7 +2,9 @@
 ghost use Rattle.std.specs.Prelude.{◌≡◌, Some, false, codes, option_map};
 
 use crate::ids::{BEFORE, BEFORE_TO, BY};
-use crate::options::{command_with, folder_option, format_option, time_option, top_option};
+use crate::options::{
+    command_with, folder_option, format_option, report_workers_option, time_option, top_option,
+};
 use crate::parameter::Parameter;
 use crate::past::as_of_option;
 use crate::ranges::{from_option, last_option, month_option, to_option};
@@ -93,6 +95,7 @@ pub(crate) fn command<'a>(alloc: Global) -> Result<Command<'a>, AllocError> {
         as_of_option(),
         compared_policy_option(),
         format_option(FORMATS.as_slice(), "table", "How the comparison is written"),
+        report_workers_option(),
     ];
     command_with(
         alloc,

@@ -34,6 +34,19 @@ pub(crate) fn workers_option(help: &'static str) -> Parameter
     Parameter::option(WORKERS, "N", help).or("1").up_to(64)
 }
 
+/// The option that says how many workers make a report; without it there are as many as there are processors.
+pub(crate) fn report_workers_option() -> Parameter
+    ensures id { result.id.now ≡ codes "workers" }
+    ensures value { result.value ≡ Number 64 }
+{
+    Parameter::option(
+        WORKERS,
+        "N",
+        "How many workers share the rows of a report by one tag, 1 to 64; without it, as many as there are processors",
+    )
+    .up_to(64)
+}
+
 /// The option that names the format of an answer, one of these words.
 pub(crate) fn format_option(
     formats: &'static [&'static str],

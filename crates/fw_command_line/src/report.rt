@@ -3,7 +3,9 @@ ghost use Rattle.std.specs.Prelude.{◌≡◌, ◌∷◌, [], false, map, codes}
 ghost use Rattle.clap.specs.declared.builder.action.ArgAction.TheVariants.{SetTrue};
 
 use crate::ids::{COLUMN, DIRECT, FORMAT, MAP, ONLY, SUM, TOP, TOTAL_ONLY, WHERE, WHERE_NOT};
-use crate::options::{by_option, command_with, folder_option, report_format_option, top_option};
+use crate::options::{
+    by_option, command_with, folder_option, report_format_option, report_workers_option, top_option,
+};
 use crate::parameter::Parameter;
 use crate::past::as_of_option;
 use crate::ranges::{from_option, last_option, month_option, to_option};
@@ -148,6 +150,7 @@ pub(crate) fn command<'a>(alloc: Global) -> Result<Command<'a>, AllocError> {
         as_of_option(),
         other_policy_option(),
         report_format_option(),
+        report_workers_option(),
         direct_option(),
     ];
     command_with(

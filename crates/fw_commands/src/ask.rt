@@ -15,40 +15,27 @@ use fw_console::{Fault, advised, let_go, open_to_ask, print_answer, warn_unfinis
 use fw_disk::FileVolume;
 use fw_query::Query;
 use fw_recover::Store;
-use fw_series::ReportOptions;
 use fw_snapshot::{Snapshot, State};
 use fw_table::shown_text;
 use fw_views::{AskedHours, CoverageFormat, Question, answer, answer_of, row_hours};
-use fw_what_if::under_policy;
 use std::alloc::AllocError;
 use std::process::ExitCode;
 
-/// What is asked of a range of hours.
+/// What is asked of a range of hours, beside the report by a tag.
 #[derive(Clone, Copy, Debug)]
 pub(crate) enum Asked<'q> {
-    /// What each group of a tag cost, under the policy of the warehouse or under one that is given.
-    Report {
-        key: &'q str,
-        options: ReportOptions,
-        policy: Option<GivenPolicy<'q>>,
-    },
     /// What each group of a tag cost before any policy, as a document.
-    Direct {
-        key: &'q str,
-        step: Option<Step>,
-    },
+    Direct { key: &'q str, step: Option<Step> },
     /// What each group of several keys cost, under filters and maps.
     Selection(&'q Wanted),
     /// Each line.
     Lines,
     /// How well commitments were used.
-    Coverage {
-        format: CoverageFormat,
-    },
+    Coverage { format: CoverageFormat },
 }
 
-// What a report sums.
-fn query_of<'q>(key: &'q str, hours: Period) -> Query<'q> {
+/// What a report sums.
+pub(crate) fn query_of<'q>(key: &'q str, hours: Period) -> Query<'q> {
     Query {
         key,
         from_hour: hours.from,
@@ -199,37 +186,12 @@ impl<'q> HoursQuestion for Asked<'q> {
         snapshot: &Snapshot,
         hours: Period,
     ) -> Result<Vec<u8>, Fault> {
-        match self {
-            Asked::Report {
-                policy: Some(given),
-                ..
-            } => {
-                let under = under_policy(rt.alloc(), snapshot.state(), given.policy)?;
-                answer_own(rt, &under, hours, *self)
-            }
-            _ => answer_own(rt, snapshot, hours, *self),
+        let text = text_over(rt, snapshot, hours, *self)?;
+        if let Asked::Selection(wanted) = self {
+            say_selected(rt, snapshot.state(), hours, wanted)?;
         }
+        Ok(text)
     }
-}
-
-// The answer of a warehouse under its policy; and what it leaves out is said.
-fn answer_own(
-    rt: &HostRuntime,
-    snapshot: &Snapshot,
-    hours: Period,
-    asked: Asked<'_>,
-) -> Result<Vec<u8>, Fault> {
-    let text = text_over(rt, snapshot, hours, asked)?;
-    match asked {
-        Asked::Report {
-            key,
-            options: _,
-            policy,
-        } => say_charged(rt, snapshot.state(), hours, key, policy)?,
-        Asked::Selection(wanted) => say_selected(rt, snapshot.state(), hours, wanted)?,
-        _ => {}
-    }
-    Ok(text)
 }
 
 /// Says of a report by a tag what it leaves out, and which policy it applied.
@@ -257,14 +219,6 @@ fn text_over(
     let Period { from, to } = hours;
     let question = match asked {
         Asked::Selection(wanted) => return selection_text(rt, snapshot, hours, wanted),
-        Asked::Report {
-            key,
-            options,
-            policy: _,
-        } => Question::Report {
-            query: query_of(key, hours),
-            options,
-        },
         Asked::Direct { key, step } => Question::Direct {
             query: query_of(key, hours),
             step,

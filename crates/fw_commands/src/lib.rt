@@ -20,6 +20,7 @@ mod past;
 mod policy;
 mod range;
 mod report;
+mod reporting;
 mod run;
 mod selected_page;
 mod selecting;

@@ -3,18 +3,21 @@ use crate::ask::{Asked, ask_hours};
 use crate::own::Owning;
 use crate::policy::GivenPolicy;
 use crate::range::{read_hours, wrong_hours};
+use crate::reporting::Reporting;
 use crate::wanted::{is_selection, read_wanted};
 use clap::ArgMatches;
 use fw_command_line::{BY, DIRECT, FORMAT, ONLY, POLICY, SUM, TAG};
-use fw_console::{Fault, read_options, step_of, wrong_top, wrong_use};
+use fw_console::{Fault, read_options, step_of, workers_of, wrong_top, wrong_use};
 use fw_series::ReportOptions;
 use fw_terms::Policy;
 use fw_views::AskedHours;
 use std::process::ExitCode;
+use std::thread::Threads;
 
 /// Prints the report that the options ask for: under the policy of the file that they name, where it is given, and else under that of the warehouse.
 pub fn print_report(
     rt: &HostRuntime,
+    threads: &(impl Threads + Sync),
     options: &ArgMatches<'_>,
     policy: Option<&Policy>,
 ) -> Result<ExitCode, Fault> {
@@ -30,8 +33,8 @@ pub fn print_report(
         let step = step_of(options.get_str(BY));
         return Ok(ask_hours(rt, options, hours, &Asked::Direct { key, step }));
     }
-    match read_options(options) {
-        Ok(shown) => print_groups(rt, options, hours, key, shown, policy),
+    match read_options(options, workers_of(threads, options)) {
+        Ok(shown) => print_groups(rt, threads, options, hours, key, shown, policy),
         Err(text) => Ok(wrong_top(rt, text)),
     }
 }
@@ -48,7 +51,7 @@ pub fn wrong_report(rt: &HostRuntime, options: &ArgMatches<'_>) -> Result<Option
     if is_selection(options) {
         return Ok(Some(print_selection(rt, options, hours)?));
     }
-    match read_options(options) {
+    match read_options(options, 1) {
         Ok(_shown) => Ok(None),
         Err(text) => Ok(Some(wrong_top(rt, text))),
     }
@@ -57,6 +60,7 @@ pub fn wrong_report(rt: &HostRuntime, options: &ArgMatches<'_>) -> Result<Option
 // Prints the report by a tag, under the policy of the warehouse or the one of a file.
 fn print_groups(
     rt: &HostRuntime,
+    threads: &(impl Threads + Sync),
     options: &ArgMatches<'_>,
     hours: AskedHours,
     key: &str,
@@ -64,19 +68,20 @@ fn print_groups(
     policy: Option<&Policy>,
 ) -> Result<ExitCode, Fault> {
     let Some(policy) = policy else {
-        return Ok(ask_report(rt, options, hours, key, shown, None));
+        return Ok(ask_report(rt, threads, options, hours, key, shown, None));
     };
     let file = options.get_str(POLICY).unwrap_or("");
     let given = GivenPolicy { file, policy };
     if policy.key() != key {
         return Ok(given.refuse(rt)?);
     }
-    Ok(ask_report(rt, options, hours, key, shown, Some(given)))
+    Ok(ask_report(rt, threads, options, hours, key, shown, Some(given)))
 }
 
 // Asks for the report by a tag, of all groups or of one alone.
 fn ask_report(
     rt: &HostRuntime,
+    threads: &(impl Threads + Sync),
     options: &ArgMatches<'_>,
     hours: AskedHours,
     key: &str,
@@ -93,7 +98,8 @@ fn ask_report(
         };
         return ask_hours(rt, options, hours, &owning);
     }
-    let asked = Asked::Report {
+    let asked = Reporting {
+        threads,
         key,
         options: shown,
         policy,

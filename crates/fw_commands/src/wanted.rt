@@ -226,7 +226,7 @@ pub fn read_wanted(
     rt: &HostRuntime,
     options: &ArgMatches<'_>,
 ) -> Result<Result<Wanted, ExitCode>, Fault> {
-    let shown = match read_options(options) {
+    let shown = match read_options(options, 1) {
         Ok(shown) => shown,
         Err(text) => return Ok(Err(wrong_top(rt, text))),
     };

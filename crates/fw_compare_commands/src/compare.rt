@@ -10,23 +10,31 @@ use fw_commands::{
     say_selected, wrong_hours,
 };
 use fw_compare::{Form, Key, View, compared, ranked, written};
-use fw_console::{Fault, letters, step_of, wrong_time, wrong_use};
+use fw_console::{Fault, letters, step_of, workers_of, wrong_time, wrong_use};
 use fw_selections::SheetFormat;
 use fw_snapshot::Snapshot;
 use fw_views::AskedHours;
 use fw_what_if::under_policy;
 use std::process::ExitCode;
+use std::thread::Threads;
 
 /// A comparison of a range with another one.
-#[derive(Clone, Copy, Debug)]
-struct Comparing<'q> {
+#[derive(Drop)]
+struct Comparing<'q, R> {
+    threads: &'q R,
+    // how many workers make each of its two reports
+    workers: u32,
     wanted: &'q Wanted,
     before: Before,
     policy: Option<GivenPolicy<'q>>,
 }
 
 /// Prints the comparison that the options ask for.
-pub fn print_comparison(rt: &HostRuntime, options: &ArgMatches<'_>) -> Result<ExitCode, Fault> {
+pub fn print_comparison(
+    rt: &HostRuntime,
+    threads: &(impl Threads + Sync),
+    options: &ArgMatches<'_>,
+) -> Result<ExitCode, Fault> {
     let hours = match read_hours(rt.alloc(), options)? {
         Ok(hours) => hours,
         Err(option) => return Ok(wrong_hours(rt, options, option)),
@@ -42,7 +50,7 @@ pub fn print_comparison(rt: &HostRuntime, options: &ArgMatches<'_>) -> Result<Ex
         ));
     }
     match read_wanted(rt, options)? {
-        Ok(wanted) => print_wanted(rt, options, hours, &wanted, before),
+        Ok(wanted) => print_wanted(rt, threads, options, hours, &wanted, before),
         Err(status) => Ok(status),
     }
 }
@@ -50,12 +58,15 @@ pub fn print_comparison(rt: &HostRuntime, options: &ArgMatches<'_>) -> Result<Ex
 // Prints the comparison of what is wanted, under the policy of the warehouse or the one of a file.
 fn print_wanted(
     rt: &HostRuntime,
+    threads: &(impl Threads + Sync),
     options: &ArgMatches<'_>,
     hours: AskedHours,
     wanted: &Wanted,
     before: Before,
 ) -> Result<ExitCode, Fault> {
     let plain = Comparing {
+        threads,
+        workers: workers_of(threads, options),
         wanted,
         before,
         policy: None,
@@ -66,7 +77,7 @@ fn print_wanted(
     match &policy_file(rt, options)? {
         PolicyFile::Policy(policy) => {
             let file = options.get_str(POLICY).unwrap_or("");
-            print_under(rt, options, hours, plain, GivenPolicy { file, policy })
+            print_under(rt, options, hours, &plain, GivenPolicy { file, policy })
         }
         PolicyFile::None => Ok(ask_hours(rt, options, hours, &plain)),
         PolicyFile::Refused => Ok(ExitCode::FAILURE),
@@ -78,13 +89,15 @@ fn print_under(
     rt: &HostRuntime,
     options: &ArgMatches<'_>,
     hours: AskedHours,
-    plain: Comparing<'_>,
+    plain: &Comparing<'_, impl Threads + Sync>,
     given: GivenPolicy<'_>,
 ) -> Result<ExitCode, Fault> {
     if plain.wanted.one_tag() != Some(given.policy.key()) {
         return Ok(given.refuse(rt)?);
     }
     let under = Comparing {
+        threads: plain.threads,
+        workers: plain.workers,
         wanted: plain.wanted,
         before: plain.before,
         policy: Some(given),
@@ -100,7 +113,7 @@ fn no_policy(rt: &HostRuntime) -> ExitCode {
     )
 }
 
-impl<'q> HoursQuestion for Comparing<'q> {
+impl<'q, R: Threads + Sync> HoursQuestion for Comparing<'q, R> {
     fn answer(
         &self,
         rt: &HostRuntime,
@@ -119,7 +132,7 @@ impl<'q> HoursQuestion for Comparing<'q> {
     }
 }
 
-impl<'q> Comparing<'q> {
+impl<'q, R: Threads + Sync> Comparing<'q, R> {
     // The comparison, under the policy of the warehouse.
     fn answer_own(
         &self,
@@ -129,8 +142,9 @@ impl<'q> Comparing<'q> {
         hours: Period,
     ) -> Result<Vec<u8>, Fault> {
         let alloc = rt.alloc();
-        let first = groups_in(alloc, snapshot, before, self.wanted)?;
-        let second = groups_in(alloc, snapshot, hours, self.wanted)?;
+        let (threads, workers) = (self.threads, self.workers);
+        let first = groups_in(threads, alloc, snapshot, before, self.wanted, workers)?;
+        let second = groups_in(threads, alloc, snapshot, hours, self.wanted, workers)?;
         let lines = compared(alloc, first.as_slice(), second.as_slice())?;
         let lines = ranked(alloc, lines.as_slice())?;
         self.say(rt, snapshot, hours)?;

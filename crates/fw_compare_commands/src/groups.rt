@@ -9,13 +9,16 @@ use fw_selections::{KeyName, shown_group};
 use fw_series::series_of;
 use fw_snapshot::Snapshot;
 use std::alloc::{AllocError, Global};
+use std::thread::Threads;
 
-/// What the groups that are wanted cost in some hours, in the order of their names. Those of one tag are charged.
+/// What the groups that are wanted cost in some hours, in the order of their names. Those of one tag are charged, and so many workers make their report.
 pub(crate) fn groups_in(
+    threads: &(impl Threads + Sync),
     alloc: Global,
     snapshot: &Snapshot,
     hours: Period,
     wanted: &Wanted,
+    workers: u32,
 ) -> Result<Vec<Group>, Fault> {
     let names = wanted.names(alloc)?;
     let mut groups = match wanted.one_tag() {
@@ -25,7 +28,8 @@ pub(crate) fn groups_in(
                 from_hour: hours.from,
                 to_hour: hours.to,
             };
-            let series = series_of(alloc, snapshot, &query, None)?;
+            let workers = workers.clamp(1, 64);
+            let series = series_of(threads, alloc, snapshot, &query, None, workers)?;
             charged_groups(alloc, &series.whole, names.as_slice())?
         }
         None => {

@@ -28,7 +28,7 @@ pub use origin::wrong_origin;
 pub use output::{print_answer, printed};
 pub use progress::{Progress, bytes_of};
 pub use range::{read_range, wrong_time};
-pub use report_options::{read_options, step_of, wrong_top};
+pub use report_options::{read_options, step_of, workers_of, wrong_top};
 pub use summary::{Member, tell, tells_json};
 pub use unfinished::{begin_replacement, end_replacement, unfinished_origin, warn_unfinished};
 pub use words::{conflict_code, entry_code, refuse, say_fault};

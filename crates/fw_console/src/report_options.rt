@@ -6,15 +6,19 @@ ghost use Rattle.fw_console.specs.Statuses.{wrong_use_status};
 use crate::fault::WRONG_USE;
 use clap::ArgMatches;
 use fw_calendar::Step;
-use fw_command_line::{BY, FORMAT, TOP};
+use fw_command_line::{BY, FORMAT, TOP, WORKERS};
 use fw_series::{Format, ReportOptions};
 use std::process::ExitCode;
+use std::thread::{Threads, available_parallelism};
 
 /// The most groups that `--top` takes.
 const MOST_TOP: usize = 1_000;
 
-/// How the options have a report cut and written, or the value of `--top` that is no number of groups.
-pub fn read_options<'o>(options: &'o ArgMatches<'_>) -> Result<ReportOptions, &'o str> {
+/// How the options have a report cut and written, which so many workers make, or the value of `--top` that is no number of groups.
+pub fn read_options<'o>(
+    options: &'o ArgMatches<'_>,
+    workers: u32,
+) -> Result<ReportOptions, &'o str> {
     let top = match options.get_str(TOP) {
         Some(text) => match read_top(text) {
             Some(top) => Some(top),
@@ -26,7 +30,28 @@ pub fn read_options<'o>(options: &'o ArgMatches<'_>) -> Result<ReportOptions, &'
         step: step_of(options.get_str(BY)),
         top,
         format: format_of(options.get_str(FORMAT)),
+        workers,
     })
+}
+
+/// How many workers make a report: as many as the options say, which have `--workers`, or else as many as there are processors.
+pub fn workers_of(threads: &impl Threads, options: &ArgMatches<'_>) -> u32
+    ensures some { 1 ≤ result }
+    ensures few { result ≤ 64 }
+{
+    let workers = match options.get_one(WORKERS) {
+        Some(workers) => workers,
+        None => processors(threads),
+    };
+    workers.clamp(1, 64)
+}
+
+// How many processors there are; 1 where that isn't known.
+fn processors(threads: &impl Threads) -> u32 {
+    match available_parallelism(threads) {
+        Ok(count) => u32::try_from(count.get()).unwrap_or(1),
+        Err(_) => 1,
+    }
 }
 
 /// The period that a word of `--by` names.

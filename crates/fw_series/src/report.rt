@@ -10,6 +10,7 @@ use fw_calendar::Step;
 use fw_query::{Query, QueryFault};
 use fw_snapshot::Snapshot;
 use std::alloc::Global;
+use std::thread::Threads;
 
 /// What a report is cut by, which of its groups are shown, and how it is written.
 #[derive(Clone, Copy, Debug, Drop)]
@@ -20,6 +21,9 @@ pub struct ReportOptions {
     pub top: Option<usize>,
     /// How it is written.
     pub format: Format,
+    /// How many workers share the rows, each in a thread of its own: 1 to 64; any other number counts as the nearest of these. It changes nothing in the
+    /// report.
+    pub workers: u32,
 }
 
 /// The report that a query and options ask for, as text, in units of the currency. Nothing changes.
@@ -28,6 +32,7 @@ pub struct ReportOptions {
 /// `Range` where the range has no hour or more than 26,304; `TotalTooLarge` where the costs of the
 /// range or, where it is cut, of a period pass 10^19 nanos; `NoMemory` where memory ran out.
 pub fn report_text(
+    rt: &(impl Threads + Sync),
     alloc: Global,
     snapshot: &Snapshot,
     query: &Query<'_>,
@@ -39,7 +44,8 @@ pub fn report_text(
     ensures fault { IfErr result (IsSeriesRefused snapshot.now.entries query.now.key.now
         query.now.from_hour query.now.to_hour options.now.step) }
 {
-    let series = series_of(alloc, snapshot, query, options.step)?;
+    let workers = options.workers.clamp(1, 64);
+    let series = series_of(rt, alloc, snapshot, query, options.step, workers)?;
     let currency = snapshot.state().currency();
     let view = View {
         tag: query.key,

@@ -24,7 +24,7 @@ struct Asked {
 
 /// Adds the reports that the options name, and prints what they come to.
 pub fn charge_reports(rt: &HostRuntime, options: &ArgMatches<'_>) -> Result<ExitCode, Fault> {
-    let shown = match read_options(options) {
+    let shown = match read_options(options, 1) {
         Ok(shown) => shown,
         Err(text) => return Ok(wrong_top(rt, text)),
     };

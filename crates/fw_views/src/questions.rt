@@ -4,13 +4,8 @@ ghost use Rattle.fw_amortise.specs.LineValue.{LineValue};
 ghost use Rattle.fw_query.specs.OfHistory.{AreLinesOf};
 ghost use Rattle.fw_query.specs.Refusals.{AreRefused};
 ghost use Rattle.fw_query.specs.Texts.{lines_text};
-ghost use Rattle.fw_series.specs.Report.{IsReportCsv};
-ghost use Rattle.fw_series.specs.Series.{IsSeriesRefused};
-ghost use Rattle.fw_series.specs.declared.report.ReportOptions.{ReportOptions};
-ghost use Rattle.fw_series.specs.declared.view.Format.TheVariants.{Csv};
-ghost use Rattle.fw_sums.specs.declared.query.Query.{Query};
 ghost use Rattle.fw_views.specs.declared.covered.CoverageFormat.{CoverageFormat};
-ghost use Rattle.fw_views.specs.declared.questions.Question.TheVariants.{Coverage, Lines, Report};
+ghost use Rattle.fw_views.specs.declared.questions.Question.TheVariants.{Coverage, Lines};
 
 use crate::covered::{CoverageFormat, coverage_text};
 use crate::status::{contents_text, sound_text, status_text};
@@ -19,18 +14,12 @@ use fw_direct::direct_text;
 use fw_disk::Volume;
 use fw_query::{Query, QueryFault, lines_csv};
 use fw_recover::Store;
-use fw_series::{ReportOptions, report_text};
 use fw_snapshot::Snapshot;
 use std::alloc::Global;
 
 /// A question to a warehouse.
 #[derive(Clone, Copy, Debug)]
 pub enum Question<'q> {
-    /// What each group of a tag cost, in the whole range or by period.
-    Report {
-        query: Query<'q>,
-        options: ReportOptions,
-    },
     /// What each group of a tag cost before any policy, in the whole range or by period, as a document that can be added to others.
     Direct {
         query: Query<'q>,
@@ -56,22 +45,13 @@ pub enum Question<'q> {
 /// The answer to a question, as text; costs are in units of the currency. Nothing changes.
 ///
 /// # Errors
-/// Of a report, of lines and of a coverage `Range` where the range has no hour or more than 26,304; of a report `TotalTooLarge` where the
+/// Of a direct report, of lines and of a coverage `Range` where the range has no hour or more than 26,304; of a direct report `TotalTooLarge` where the
 /// costs of the range or, where it is cut, of a period pass 10^19 nanos; of each question `NoMemory` where memory ran out.
 pub fn answer<V: Volume>(
     alloc: Global,
     store: &Store<V>,
     question: &Question<'_>,
 ) -> Result<Vec<u8>, QueryFault>
-    ensures report { (query : Query) (options : ReportOptions)
-        → question.now ≡ Report query options
-        → options.step ≡ None → options.top ≡ None → options.format ≡ Csv
-        → IfOk result (λ text. IsReportCsv store.now.history.entries query.key.now
-        query.from_hour query.to_hour text.items) }
-    ensures report_fault { (query : Query) (options : ReportOptions)
-        → question.now ≡ Report query options
-        → IfErr result (IsSeriesRefused store.now.history.entries query.key.now
-        query.from_hour query.to_hour options.step) }
     ensures lines { (from to : ℕ) → question.now ≡ Lines from to
         → IfOk result (λ text. (lines : List LineValue)
         × AreLinesOf store.now.history.entries from to lines
@@ -98,15 +78,6 @@ pub fn answer_of(
     snapshot: &Snapshot,
     question: &Question<'_>,
 ) -> Result<Vec<u8>, QueryFault>
-    ensures report { (query : Query) (options : ReportOptions)
-        → question.now ≡ Report query options
-        → options.step ≡ None → options.top ≡ None → options.format ≡ Csv
-        → IfOk result (λ text. IsReportCsv snapshot.now.entries query.key.now
-        query.from_hour query.to_hour text.items) }
-    ensures report_fault { (query : Query) (options : ReportOptions)
-        → question.now ≡ Report query options
-        → IfErr result (IsSeriesRefused snapshot.now.entries query.key.now
-        query.from_hour query.to_hour options.step) }
     ensures lines { (from to : ℕ) → question.now ≡ Lines from to
         → IfOk result (λ text. (lines : List LineValue)
         × AreLinesOf snapshot.now.entries from to lines
@@ -117,7 +88,6 @@ pub fn answer_of(
         → question.now ≡ Coverage from to format → IfErr result (AreRefused from to) }
 {
     match question {
-        Question::Report { query, options } => report_text(alloc, snapshot, query, options),
         Question::Direct { query, step } => direct_text(alloc, snapshot, query, *step),
         Question::Lines { from, to } => lines_csv(alloc, snapshot, *from, *to),
         Question::Coverage { from, to, format } => {
