@@ -1,11 +1,11 @@
 -- What bytes do that end no record.
-use Rattle.std.proofs.Common.{◌≡◌, ◌≢◌, ◌<◌, ◌+◌, ◌==◌, ◌||◌, ◌&&◌, not, ℕ, suc, List, [], ◌∷◌, ◌++◌, All, Bool, true, false, take, length, get_or, refl, ap, ◌∙◌, arith, inl, inr}
-use Rattle.std.proofs.lemmas.Bool.{cases_Bool, eqb-true}
+use Rattle.std.proofs.Common.{◌≡◌, ◌≢◌, ◌<◌, ◌≤◌, min, ◌+◌, ◌==◌, ◌||◌, ◌&&◌, not, ℕ, suc, List, [], ◌∷◌, ◌++◌, All, Bool, true, false, take, length, get_or, refl, ap, ◌∙◌, arith, inl, inr}
+use Rattle.std.proofs.lemmas.Bool.{cases_Bool, cases_lt, eqb-true}
 use Rattle.std.proofs.lemmas.List.{take_more}
 use Rattle.csv.specs.Machine.{Feeds, step, is_end, fields_after, field_after}
 use Rattle.csv.specs.Reading.{default_config}
 use Rattle.csv.proofs.ReadFacts.{feeds-push}
-use Rattle.fw_cut.specs.Places.{state_of, GoesOn, IsPassed, IsPassedBut, IsPlain, place_of, place_behind}
+use Rattle.fw_cut.specs.Places.{block, state_of, GoesOn, IsPassed, IsPassedBut, IsPlain, place_of, place_behind}
 use Rattle.fw_cut.specs.declared.place.Place.{Place}
 use Rattle.fw_cut.specs.declared.place.Place.TheVariants as place
 
@@ -118,3 +118,16 @@ pub passed-one : (text : List ℕ) (n : ℕ) → n < length text → get_or text
 passed-one text n lt h so =
     let no : (get_or text n 0 == 34) ≡ false = is-not (get_or text n 0) 34 h in
     rw no (quoted-more text n lt h so)
+
+-- what holds of each count up to m, the least of a count and of one more that was looked at
+pub up-to-more : (P : ℕ → Type 0) (len index place m : ℕ) → m ≡ min len place → len ≤ block → ((n : ℕ) → n ≤ len → n ≤ index → P n)
+    → (index < place → P index → P (index + 1)) → (m ≤ block) × ((n : ℕ) → n ≤ m → n ≤ index + 1 → P n)
+up-to-more P len index place m is low so one = (
+  omega (arith, is, low),
+  λ n within next. elim (cases_lt index n) [
+    | inl lt ↦
+        let same : n ≡ index + 1 = omega (arith, lt, next) in
+        rw same (one (omega (arith, lt, within, is)) (so index (omega (arith, lt, within, is)) (omega arith)))
+    | inr le ↦ so n (omega (arith, within, is)) le
+  ],
+)

@@ -43,7 +43,7 @@ unfoldable pub place_behind : Place → List ℕ → Place
 place_behind p [] = p
 place_behind p (c ∷ rest) = place_behind (place_of c) rest
 
--- how many bytes within quotes are looked at together
+-- how many bytes are looked at together
 abbrev pub block : ℕ
 block = 32
 

@@ -5,8 +5,6 @@ ghost use Rattle.csv.specs.Reading.{default_config};
 ghost use Rattle.fw_cut.specs.Places.{block, state_of, place_behind, Does, GoesOn, IsPassed, IsPlain};
 ghost use Rattle.fw_cut.specs.declared.place.Place.TheVariants.{Quoted};
 
-use memchr::memchr3;
-
 /// The bytes that separate fields and records.
 const COMMA: u8 = b',';
 
@@ -49,7 +47,8 @@ pub(crate) struct Run {
 
 impl Place {
     /// The bytes that are next and surely end no record: within quotes all before the closing quote, else all before the next quote or line
-    /// end. Most bytes of a text are in such a run, and looking for its end takes a loop of few instructions a byte.
+    /// end. Most bytes of a text are in such a run, and many of them are looked at together. Behind a closing quote there is none, as the next byte
+    /// mostly ends the field.
     pub(crate) fn run(self, text: &[u8]) -> Run
         ensures within { result.len ≤ length text.now }
         ensures goes { GoesOn self (take result.len text.now) result.place }
@@ -58,6 +57,10 @@ impl Place {
             Place::Quoted => Run {
                 place: self,
                 len: quoted_len(text),
+            },
+            Place::AfterQuote => Run {
+                place: self,
+                len: 0,
             },
             _ => {
                 let len = plain_len(text);
@@ -162,15 +165,53 @@ fn in_field(byte: u8) -> Step
     }
 }
 
+/// How many bytes are looked at together.
+const BLOCK: u8 = 32;
+
 // How many bytes stand before the first quote or line end.
 fn plain_len(text: &[u8]) -> usize
     ensures within { result ≤ length text.now }
     ensures plain { All IsPlain (take result text.now) }
 {
-    match memchr3(QUOTE, CARRIAGE_RETURN, LINE_FEED, text) {
-        Some(at) => at,
-        None => text.len(),
+    if text.is_empty() || !is_plain(text[0]) {
+        return 0;
     }
+    let mut at = 0;
+    while at + usize::from(BLOCK) <= text.len() {
+        let len = plain_in_block(text, at);
+        if len < BLOCK {
+            return at + usize::from(len);
+        }
+        at += usize::from(BLOCK);
+    }
+    while at < text.len() && is_plain(text[at]) {
+        at += 1;
+    }
+    at
+}
+
+// Whether a byte is no quote and no line end.
+#[inline(always)]
+fn is_plain(byte: u8) -> bool
+    ensures { IsTrue result → IsPlain byte }
+{
+    (byte != QUOTE) & (byte != CARRIAGE_RETURN) & (byte != LINE_FEED)
+}
+
+// How many bytes of a block stand before its first quote or line end. No byte is branched on, so many are looked at together.
+#[inline(always)]
+fn plain_in_block(text: &[u8], at: usize) -> u8
+    requires within { at + block ≤ length text.now }
+    requires plain { All IsPlain (take at text.now) }
+    ensures within { result ≤ block }
+    ensures plain { All IsPlain (take (at + result) text.now) }
+{
+    let mut len = BLOCK;
+    for index in 0..BLOCK {
+        let is_plain = is_plain(text[at + usize::from(index)]);
+        len = len.min(if is_plain { BLOCK } else { index });
+    }
+    len
 }
 
 // How many bytes stand before the quote that closes a field, two quotes in a row being none; where the text ends behind a quote, those before it.
@@ -190,9 +231,6 @@ fn quoted_len(text: &[u8]) -> usize
     at
 }
 
-/// How many bytes within quotes are looked at together.
-const BLOCK: usize = 32;
-
 // Where up to a block of bytes within quotes ends that are looked at one by one: it ends before a quote that closes the field.
 fn bytes_end(text: &[u8], from: usize) -> usize
     requires within { from ≤ length text.now }
@@ -201,7 +239,7 @@ fn bytes_end(text: &[u8], from: usize) -> usize
     ensures within { result ≤ length text.now }
     ensures goes { GoesOn Quoted (take result text.now) Quoted }
 {
-    let end = text.len().min(from.saturating_add(BLOCK));
+    let end = text.len().min(from.saturating_add(usize::from(BLOCK)));
     let mut at = from;
     while at < end {
         if text[at] != QUOTE {
@@ -227,29 +265,34 @@ fn blocks_end(text: &[u8], from: usize) -> usize
         return from;
     }
     let mut last = from;
-    while last + BLOCK + 1 < text.len() {
-        if !has_pairs(text, last) {
-            return pairs_end(text, last);
+    while last + usize::from(BLOCK) + 1 < text.len() {
+        let len = pairs_in_block(text, last);
+        if len < BLOCK {
+            return pairs_end(text, last + usize::from(len));
         }
-        last += BLOCK;
+        last += usize::from(BLOCK);
     }
     pairs_end(text, last)
 }
 
-// Whether each quote among the bytes behind a place, as many as a block has, has just one other beside it. Then quotes stand in pairs, and none closes a
-// field. No byte is branched on, so many are looked at together, wherever quotes stand.
+// How many bytes behind a place, at most those of a block, stand before the first quote that hasn't just one other beside it. Quotes before it stand in pairs,
+// and none closes a field. No byte is branched on, so many are looked at together, wherever quotes stand.
 #[inline(always)]
-fn has_pairs(text: &[u8], last: usize) -> bool
-    requires { last + block + 1 < length text.now }
-    ensures { IsTrue result → IsPassed text.now last → IsPassed text.now (last + block) }
+fn pairs_in_block(text: &[u8], last: usize) -> u8
+    requires within { last + block + 1 < length text.now }
+    requires passed { IsPassed text.now last }
+    ensures within { result ≤ block }
+    ensures passed { IsPassed text.now (last + result) }
 {
-    let mut has_other = false;
-    for index in last..last + BLOCK {
-        let is_quote = text[index + 1] == QUOTE;
-        let (before, behind) = (text[index] == QUOTE, text[index + 2] == QUOTE);
-        has_other |= is_quote & !((before & !behind) | (!before & behind));
+    let mut len = BLOCK;
+    for index in 0..BLOCK {
+        let at = last + usize::from(index);
+        let is_quote = text[at + 1] == QUOTE;
+        let (before, behind) = (text[at] == QUOTE, text[at + 2] == QUOTE);
+        let has_other = is_quote & !((before & !behind) | (!before & behind));
+        len = len.min(if has_other { index } else { BLOCK });
     }
-    !has_other
+    len
 }
 
 // Where bytes end that are passed surely, if those up to a place are: before the quote there, if it is the first of a pair.
