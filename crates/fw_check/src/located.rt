@@ -1,5 +1,5 @@
 //! Where a fault of a part stands.
-ghost use Rattle.std.specs.Prelude.{◌≡◌, ◌≤◌, ◌<◌, ◌-◌, length, Option, IfOk};
+ghost use Rattle.std.specs.Prelude.{◌≡◌, ◌≤◌, ◌<◌, ◌+◌, ◌-◌, length, take, Option, IfOk};
 ghost use Rattle.fw_check.specs.Checks.{records_in};
 ghost use Rattle.fw_check.specs.Faults.{CanStandIn, column_text};
 ghost use Rattle.fw_check.specs.Lines.{blank_len, is_content, line_ends_in, before_record};
@@ -13,7 +13,6 @@ use crate::findings::{column_name, column_of, value_of};
 use fw_cut::{Part, cut_off};
 use fw_explain::explain_fault;
 use fw_rows::RecordFault;
-use memchr::memchr_iter;
 use std::alloc::{AllocError, Global};
 
 /// Where a fault stands, and what is wrong.
@@ -44,13 +43,40 @@ impl Drop for Located {
     }
 }
 
-/// How many lines end in a text, where this byte ends them.
+/// How many bytes are counted in a byte, at most 255.
+const BLOCK: u8 = 128;
+
+/// How many lines end in a text, where this byte ends them. Blocks are counted in a byte each, so that many bytes are looked at together.
 pub fn line_ends(text: &[u8], line_end: u8) -> u64
     ensures { result ≡ line_ends_in line_end text.now }
 {
     let mut count = 0;
-    for _place in memchr_iter(line_end, text) {
-        count += 1;
+    let mut at = 0;
+    while at + usize::from(BLOCK) <= text.len() {
+        count += u64::from(ends_in_block(text, at, line_end));
+        at += usize::from(BLOCK);
+    }
+    for place in at..text.len() {
+        if text[place] == line_end {
+            count += 1;
+        }
+    }
+    count
+}
+
+// How many lines end in a block.
+#[inline(always)]
+fn ends_in_block(text: &[u8], at: usize, line_end: u8) -> u8
+    requires { at + 128 ≤ length text.now }
+    ensures few { result ≤ 128 }
+    ensures count { line_ends_in line_end (take (at + 128) text.now)
+        ≡ line_ends_in line_end (take at text.now) + result }
+{
+    let mut count = 0;
+    for index in 0..BLOCK {
+        if text[at + usize::from(index)] == line_end {
+            count += 1;
+        }
     }
     count
 }

@@ -1,5 +1,6 @@
 //! Whether the rows of files fit into a warehouse, before the first of them is posted.
 use crate::importing::Import;
+use fw_check::line_ends;
 use fw_console::{Fault, House, bytes_of, say_fault};
 use fw_cut::{CutFault, Cutter};
 use fw_export_files::{all_exports, texts_of};
@@ -10,9 +11,6 @@ use std::io::Read;
 
 /// How many bytes of a file are looked at together.
 const PIECE: usize = 64 * 1024;
-
-/// How many bytes are counted together, at most 255.
-const BLOCK: usize = 128;
 
 /// Whether the rows of the exports that names stand for fit into the warehouse of an import; where they don't, that is said. Files that are no plain
 /// files, or so short that their rows fit in any case, aren't read.
@@ -90,17 +88,9 @@ fn line_ends_of(rt: &HostRuntime, file: &str) -> Result<Option<u64>, Fault> {
     Ok(None)
 }
 
-// How many line feeds and carriage returns there are. Blocks are counted in a byte each, so that many bytes are looked at together.
+// How many line feeds and carriage returns there are.
 fn ends_in(bytes: &[u8]) -> u64 {
-    let mut ends: u64 = 0;
-    for block in bytes.chunks(BLOCK) {
-        let mut count: u8 = 0;
-        for byte in block {
-            count = count.wrapping_add(u8::from((*byte == b'\n') | (*byte == b'\r')));
-        }
-        ends = ends.saturating_add(u64::from(count));
-    }
-    ends
+    line_ends(bytes, b'\n').saturating_add(line_ends(bytes, b'\r'))
 }
 
 // How many records files have behind their headers. None where one can't be read or cut: its import says why.
