@@ -26,15 +26,21 @@ fn do_all_fit(rt: &HostRuntime, import: &Import<'_>, files: &[&str]) -> Result<b
     let Some(bytes) = plain_bytes(rt, files) else {
         return Ok(true);
     };
-    let posted = import.house.rows_posted();
-    if surely_fits(posted, bytes) {
+    let mut seen = Seen {
+        rows: import.house.rows_posted(),
+        left: bytes,
+    };
+    for file in files {
+        if !seen.read(rt, file)? {
+            return Ok(true);
+        }
+    }
+    if seen.surely_fits() {
         return Ok(true);
     }
     let sent = rows_sent(rt.alloc(), import)?;
-    let Some(most) = most_rows(rt, files)? else {
-        return Ok(true);
-    };
-    if fits(posted, sent, most) {
+    let posted = import.house.rows_posted();
+    if fits(posted, sent, seen.rows.saturating_sub(posted)) {
         return Ok(true);
     }
     let Some(rows) = count_rows(rt, files)? else {
@@ -57,35 +63,48 @@ fn plain_bytes(rt: &HostRuntime, files: &[&str]) -> Option<u64> {
     bytes_of(rt, files)
 }
 
-// How many records files have at most: one for each line end, and one that the end of a file ends. None where one can't be read: its import says why.
-fn most_rows(rt: &HostRuntime, files: &[&str]) -> Result<Option<u64>, Fault> {
-    let mut rows: u64 = 0;
-    for file in files {
-        match line_ends_of(rt, file)? {
-            Some(more) => rows = rows.saturating_add(more).saturating_add(1),
-            None => return Ok(None),
-        }
-    }
-    Ok(Some(rows))
+// What was seen of files: how many rows there are at most, those that were posted before among them, and how many bytes are left.
+#[derive(Drop)]
+struct Seen {
+    rows: u64,
+    left: u64,
 }
 
-// How many line feeds and carriage returns a file has.
-fn line_ends_of(rt: &HostRuntime, file: &str) -> Result<Option<u64>, Fault> {
-    let Ok(mut opened) = fs::open(rt, file) else {
-        return Ok(None);
-    };
-    let mut piece = vec![in rt.alloc(); 0; PIECE]?;
-    let mut ends: u64 = 0;
-    for _ in 0..u64::MAX {
-        match opened.read(&mut piece) {
-            Ok(0) => return Ok(Some(ends)),
-            Ok(len) => {
-                ends = ends.saturating_add(ends_in(&piece[..len.min(PIECE)]));
-            }
-            Err(_) => return Ok(None),
-        }
+impl Seen {
+    // Whether the rows surely fit, whatever is left.
+    fn surely_fits(&self) -> bool {
+        surely_fits(self.rows, self.left)
     }
-    Ok(None)
+
+    // Reads a file until its rows surely fit, or to its end. A record ends with a line end, or with the end of its file. False where the file can't be
+    // read: its import says why.
+    fn read(&mut self, rt: &HostRuntime, file: &str) -> Result<bool, Fault> {
+        self.rows = self.rows.saturating_add(1);
+        if self.surely_fits() {
+            return Ok(true);
+        }
+        let Ok(mut opened) = fs::open(rt, file) else {
+            return Ok(false);
+        };
+        let mut piece = vec![in rt.alloc(); 0; PIECE]?;
+        for _ in 0..u64::MAX {
+            match opened.read(&mut piece) {
+                Ok(0) => return Ok(true),
+                Ok(len) => self.pass(&piece[..len.min(PIECE)]),
+                Err(_) => return Ok(false),
+            }
+            if self.surely_fits() {
+                return Ok(true);
+            }
+        }
+        Ok(false)
+    }
+
+    // Passes over bytes.
+    fn pass(&mut self, bytes: &[u8]) {
+        self.rows = self.rows.saturating_add(ends_in(bytes));
+        self.left = self.left.saturating_sub(bytes.len() as u64);
+    }
 }
 
 // How many line feeds and carriage returns there are.
