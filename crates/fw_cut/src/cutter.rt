@@ -8,7 +8,7 @@ use crate::counting::part_count;
 use crate::cutting::cut_off;
 use crate::fault::CutFault;
 use crate::heads::{head_of, is_again, mark_len};
-use crate::input::fill;
+use crate::input::{PIECE, fill};
 use crate::stopping::{cut_before, header_at};
 use fw_charge::MOST_POST_ROWS;
 use std::alloc::{AllocError, Global};
@@ -72,6 +72,8 @@ pub struct Cutter<R: Read> {
     spare: Vec<u8>,
     // whether the reader has nothing left
     at_end: bool,
+    // how many bytes are read for the next part at first, as many as the part before it needed: what a part is doesn't depend on it
+    likely: usize,
 }
 
 impl<R: Read + Drop> Drop for Cutter<R> {
@@ -82,6 +84,7 @@ impl<R: Read + Drop> Drop for Cutter<R> {
             buffer: _,
             spare: _,
             at_end: _,
+            likely: _,
         } = self;
     }
 }
@@ -156,6 +159,7 @@ impl<R: Read + Drop> Cutter<R> {
             buffer: rest,
             spare: Vec::new(alloc),
             at_end,
+            likely: PART_BYTES,
         })
     }
 }
@@ -202,7 +206,10 @@ impl<R: Read> Cutter<R> {
             (left_of R.remaining self.old) (left_of R.remaining self.new) skipped.items) }
         ensures header { OnOk result (self.new.header ≡ self.old.header) }
     {
-        self.read_on(PART_BYTES)?;
+        self.read_on(self.likely.min(PART_BYTES))?;
+        if cut_off(&self.buffer, 1).records == 0 {
+            self.read_on(PART_BYTES)?;
+        }
         let end = self.front_header();
         let skipped = self.skip(alloc, end)?;
         Ok(skipped)
@@ -238,6 +245,10 @@ impl<R: Read> Cutter<R> {
         ensures none { IfOk result (λ part. part.skipped.items ≡ []) }
         ensures header { OnOk result (self.new.header ≡ self.old.header) }
     {
+        if let Some(end) = self.full_part() {
+            let part = self.taken(alloc, end)?;
+            return Ok(part);
+        }
         self.read_on(PART_BYTES)?;
         if let Some(end) = self.end_of_part() {
             let part = self.taken(alloc, end)?;
@@ -287,6 +298,21 @@ impl<R: Read> Cutter<R> {
         Ok(())
     }
 
+    // Where the next part ends, if what was read has all of it: as many records as a part has, or all up to where the header stands again. It isn't looked
+    // for where the parts before were as long as what is looked at for one.
+    fn full_part(&self) -> Option<usize>
+        ensures { IfSome result (λ end. CanEnd self.now end (take end self.now.buffer)) }
+    {
+        if self.likely >= PART_BYTES {
+            return None;
+        }
+        let stop = cut_before(head_of(&self.header), &self.buffer, MOST_RECORDS);
+        if stop.records < MOST_RECORDS && stop.header == 0 {
+            return None;
+        }
+        Some(stop.end)
+    }
+
     // Where the next part ends, if what was read has a whole record or is all: where the header stands again, if not later.
     fn end_of_part(&self) -> Option<usize>
         ensures { IfSome result (λ end. CanEnd self.now end (take end self.now.buffer)) }
@@ -318,6 +344,7 @@ impl<R: Read> Cutter<R> {
         text.extend_from_slice(&self.buffer[..end])?;
         put_rest(&mut self.spare, &self.buffer, end)?;
         mem::swap(&mut self.buffer, &mut self.spare);
+        self.likely = end.saturating_add(PIECE);
         Ok(Part {
             text,
             header: self.header.len(),

@@ -6,7 +6,7 @@ use crate::fault::CutFault;
 use std::io::Read;
 
 /// How many bytes one read asks for.
-const PIECE: usize = 64 * 1024;
+pub(crate) const PIECE: usize = 64 * 1024;
 
 /// Reads on until there are at least `enough` bytes, or the end of the reader is reached, and says whether it is.
 pub(crate) fn fill<R: Read>(
