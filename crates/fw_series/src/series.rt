@@ -1,5 +1,5 @@
 //! The reports of the periods of a range.
-ghost use Rattle.std.specs.Prelude.{◌≡◌, ◌<◌, IfErr, IfOk, Some};
+ghost use Rattle.std.specs.Prelude.{◌≡◌, ◌<◌, ◌≤◌, IfErr, IfOk, Some};
 ghost use Rattle.fw_snapshot.specs.History.{commitments_of, rows_of};
 ghost use Rattle.fw_sums.specs.ReportCache.{AreKept};
 ghost use Rattle.fw_series.specs.Series.{AreParts, IsPartReport, IsRefusedOn, IsSeries, IsSeriesRefused};

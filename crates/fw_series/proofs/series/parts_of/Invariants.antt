@@ -6,6 +6,6 @@ use Rattle.fw_series.proofs.series.parts_of.Given as goal
 
 -- the parts are the periods so far, each with its report, and what is kept is of the snapshot's entries
 abbrev pub invariant-loop-period : goal.invariant-loop-period
-invariant-loop-period l =
+invariant-loop-period g l =
     (map (λ p. p.period) l.parts.items ≡ take l.period-index l.period-items) × All (IsPartReport l.snapshot.entries l.query.key.now) l.parts.items
     × AreKept (commitments_of l.snapshot.entries) (rows_of l.snapshot.entries) l.cache
