@@ -76,7 +76,9 @@ pub fn ask_hours<Q: HoursQuestion>(
     options: &ArgMatches<'_>,
     hours: AskedHours,
     asked: &Q,
-) -> ExitCode {
+) -> ExitCode
+    requires { Q.is_askable asked.now }
+{
     let folder = options.get_str(DIR).unwrap_or("");
     let as_of = match read_as_of(options) {
         Ok(as_of) => as_of,
@@ -138,7 +140,9 @@ fn answer_hours_in<Q: HoursQuestion>(
     as_of: Option<usize>,
     hours: AskedHours,
     asked: &Q,
-) -> Result<Answered, Fault> {
+) -> Result<Answered, Fault>
+    requires { Q.is_askable asked.now }
+{
     let store = open_to_ask(rt, folder)?;
     let answered = answer_as_of(rt, folder, store.state(), as_of, hours, asked);
     let_go(store, answered)
@@ -152,7 +156,9 @@ fn answer_as_of<Q: HoursQuestion>(
     as_of: Option<usize>,
     hours: AskedHours,
     asked: &Q,
-) -> Result<Answered, Fault> {
+) -> Result<Answered, Fault>
+    requires { Q.is_askable asked.now }
+{
     warn_unfinished(rt, folder)?;
     if !has_entries(snapshot.state(), as_of) {
         return Ok(Answered::TooFew(snapshot.state().entries()));
@@ -167,7 +173,9 @@ fn answer_hours<Q: HoursQuestion>(
     snapshot: &Snapshot,
     hours: AskedHours,
     asked: &Q,
-) -> Result<Answered, Fault> {
+) -> Result<Answered, Fault>
+    requires { Q.is_askable asked.now }
+{
     let rows = match hours {
         AskedHours::Given(_) => None,
         _ => row_hours(rt.alloc(), snapshot.state())?,
@@ -180,6 +188,8 @@ fn answer_hours<Q: HoursQuestion>(
 }
 
 impl<'q> HoursQuestion for Asked<'q> {
+    ghost is_askable = { λ _. Unit {0} };
+
     fn answer(
         &self,
         rt: &HostRuntime,

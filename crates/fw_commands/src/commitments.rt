@@ -85,6 +85,8 @@ fn format_of(word: Option<&str>) -> SheetFormat {
 }
 
 impl HoursQuestion for Figured {
+    ghost is_askable = { λ _. Unit {0} };
+
     fn answer(
         &self,
         rt: &HostRuntime,

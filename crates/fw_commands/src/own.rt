@@ -23,6 +23,8 @@ pub(crate) struct Owning<'q> {
 }
 
 impl<'q> HoursQuestion for Owning<'q> {
+    ghost is_askable = { λ _. Unit {0} };
+
     fn answer(
         &self,
         rt: &HostRuntime,

@@ -19,6 +19,10 @@ pub(crate) struct Reporting<'q, R> {
 }
 
 impl<'q, R: Threads + Sync> HoursQuestion for Reporting<'q, R> {
+    ghost use Rattle.std.specs.Thread.{IsSync};
+
+    ghost is_askable = { λ _. IsSync R.row };
+
     fn answer(
         &self,
         rt: &HostRuntime,

@@ -114,6 +114,10 @@ fn no_policy(rt: &HostRuntime) -> ExitCode {
 }
 
 impl<'q, R: Threads + Sync> HoursQuestion for Comparing<'q, R> {
+    ghost use Rattle.std.specs.Thread.{IsSync};
+
+    ghost is_askable = { λ _. IsSync R.row };
+
     fn answer(
         &self,
         rt: &HostRuntime,
