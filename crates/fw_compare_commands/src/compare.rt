@@ -56,12 +56,12 @@ pub fn print_comparison(
 }
 
 // Prints the comparison of what is wanted, under the policy of the warehouse or the one of a file.
-fn print_wanted(
+fn print_wanted<'q>(
     rt: &HostRuntime,
-    threads: &(impl Threads + Sync),
+    threads: &'q (impl Threads + Sync),
     options: &ArgMatches<'_>,
     hours: AskedHours,
-    wanted: &Wanted,
+    wanted: &'q Wanted,
     before: Before,
 ) -> Result<ExitCode, Fault> {
     let plain = Comparing {
