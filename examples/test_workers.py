@@ -114,6 +114,24 @@ class Workers(Case):
                 self.assertEqual(run.wait(timeout=60), 1, workers)
                 self.assertIn(b"standard input:2: record 1, BillingCurrency", run.stderr.read(), workers)
 
+    def test_standard_input_that_comes_in_small_pieces(self):
+        # Records of which fewer than a post can have are within two MiB, so that bytes say where a part ends.
+        header = "BilledCost,EffectiveCost,BillingCurrency,ChargeCategory,ChargePeriodStart,ChargePeriodEnd,Note"
+        lines = [f"{it},{it},USD,Usage,2024-01-01T00Z,2024-01-01T01Z,{'x' * (900 + it % 7)}" for it in range(6_000)]
+        wide = "\n".join([header, *lines, ""]).encode()
+        self.write("wide.csv", wide)
+        right = self.imported("file", 1, "wide.csv")
+        self.assertEqual(right[0][0], 0, right[0])
+        for workers, size in ((1, 10_007), (3, 10_007), (1, 100_003)):
+            house = self.new_folder(f"piped-{workers}-{size}")
+            words = [program(), "import", "--dir", house, "--create", "--origin", "a", "--workers", str(workers), "-"]
+            with subprocess.Popen(words, stdin=subprocess.PIPE, stdout=subprocess.PIPE, bufsize=0) as run:
+                for at in range(0, len(wide), size):
+                    run.stdin.write(wide[at : at + size])
+                run.stdin.close()
+                self.assertEqual((run.stdout.read().decode(), run.wait()), (right[0][1], 0))
+            self.assertEqual([(house / side).read_bytes() == it for side, it in zip(("left", "right"), right[1])], [True, True])
+
     def test_an_end_within_quotes(self):
         self.write("cut.csv", self.long + b'"' + b"x" * (5 << 20))
         self.assertIn("V16 LongRecord", self.same("cut.csv", status=1)[2])
