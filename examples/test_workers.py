@@ -7,6 +7,7 @@ What one worker imports is compared with another program by the other tests. Her
 standard error have to be the same, to the byte: of long files, of several, of a folder, of standard input, with kept columns, in a dialect, and where a
 file has a fault, is cut off, or was imported before.
 """
+import contextlib
 import random
 import subprocess
 import sys
@@ -104,12 +105,13 @@ class Workers(Case):
         lines = self.long.splitlines(keepends=True)
         lines[1] = lines[1].replace(b"USD", b"EUR")
         for workers, parts in ((1, 0), (2, 2)):
-            # What is read before the first part is taken, and a little that the pipe holds: two MiB at a time, behind the parts that are cut.
-            sent = len(b"".join(lines[: 1 + 4_096 * parts])) + (2 << 20) + 10_000
+            # No less than what is read before the first part is taken: two MiB and a piece behind the parts that are cut.
+            sent = len(b"".join(lines[: 1 + 4_096 * parts])) + (2 << 20) + (64 << 10)
             words = [program(), "import", "--dir", "open", "--create", "--origin", "a", "--workers", str(workers), "-"]
-            with subprocess.Popen(words, stdin=subprocess.PIPE, stderr=subprocess.PIPE, cwd=self.top) as run:
-                run.stdin.write(b"".join(lines)[:sent])
-                run.stdin.flush()
+            with subprocess.Popen(words, stdin=subprocess.PIPE, stderr=subprocess.PIPE, cwd=self.top, bufsize=0) as run:
+                # It may end before it has read all of it.
+                with contextlib.suppress(BrokenPipeError):
+                    run.stdin.write(b"".join(lines)[:sent])
                 # The pipe is closed behind this alone.
                 self.assertEqual(run.wait(timeout=60), 1, workers)
                 self.assertIn(b"standard input:2: record 1, BillingCurrency", run.stderr.read(), workers)
