@@ -5,7 +5,6 @@ ghost use Rattle.fw_rows.specs.Rows.{RowsRead};
 use crate::content::Content;
 use fw_column_rows::{KnownTexts, read_columns_after};
 use fw_columns::Columns;
-use fw_row_bytes::spelled;
 use fw_rows::{Currency, RowFault};
 use std::alloc::Global;
 use std::marker::Model;
@@ -32,17 +31,14 @@ impl Model for ReadPost {
 }
 
 impl ReadPost {
-    // Reads the content of a post, and makes the bytes that its rows are written as.
+    // Reads the content of a post.
     pub(crate) fn of_content(
         alloc: Global,
         content: Content,
         currency: Currency,
         known: &mut KnownTexts,
     ) -> ReadPost {
-        let rows = match read_columns_after(alloc, content.bytes(), currency, known) {
-            Ok(rows) => Ok(spelled(alloc, rows)),
-            Err(fault) => Err(fault),
-        };
+        let rows = read_columns_after(alloc, content.bytes(), currency, known);
         ReadPost {
             currency,
             content,
